@@ -30,7 +30,9 @@ use Rattle.elf.specs.Names.{name_section, name_table}
 use Rattle.elf.specs.declared.read_error.ReadError.{ReadError}
 use Rattle.elf.specs.declared.read_error.ReadError.TheVariants.{Parse}
 use Rattle.elf_linking.proofs.Naming.{strings_follow}
+use Rattle.elf_dynamic.proofs.Following.{found_follows, map_follows, read_follows, then_follows}
 use Rattle.elf_linking.specs.Needed.{NamesFollow, read_error, strings_by}
+use Rattle.elf_linking.specs.declared.needed.NamesError.TheVariants.{Missing}
 use Rattle.elf_dynamic.specs.dynamic_view.Entries.{entries_in}
 use Rattle.elf_linking.specs.declared.needed.NamesError.{NamesError}
 use Rattle.elf_tools.proofs.BuildIds.{id_follows}
@@ -62,16 +64,11 @@ abbrev with_strings : (Table → Result (List ℕ) NamesError) → Table → Res
 with_strings strings entries = ok_map (λ bytes. (entries, bytes)) (strings entries)
 
 module _ (away : ℕ × ℕ → Bool) (of_whole of_part : Table → Result (List ℕ) NamesError) where
-  pair_names : (t : Table) → NamesFollow away (of_whole t) (of_part t) → NamesFollow away (ok_map Some (with_strings of_whole t)) (ok_map Some (with_strings of_part t))
-  pair_names t (inl same) = inl (ap (λ r. ok_map Some (ok_map (λ (bytes : List ℕ). (t, bytes)) r)) same)
-  pair_names t (inr other) = inr (other.0, other.1, ap (λ r. ok_map Some (ok_map (λ (bytes : List ℕ). (t, bytes)) r)) other.2)
-
   named_by : (w : Result (Option Table) ParseError) (p : Result (Option Table) ReadError) → ((t : Table) → NamesFollow away (of_whole t) (of_part t)) → Follows away w p
       → NamesFollow away (err_map (read_error Whole) w >>= if_found (with_strings of_whole)) (err_map (read_error Partial) p >>= if_found (with_strings of_part))
-  named_by (Ok None) p each (inl same) = inl (ap (λ r. err_map (read_error Partial) r >>= if_found (with_strings of_part)) same)
-  named_by (Ok (Some t)) p each (inl same) = rw same (pair_names t (each t))
-  named_by (Err e) p each (inl same) = inl (ap (λ r. err_map (read_error Partial) r >>= if_found (with_strings of_part)) same)
-  named_by w p each (inr other) = inr (other.0, other.1, ap (λ r. err_map (read_error Partial) r >>= if_found (with_strings of_part)) other.2)
+  named_by w p each follow =
+      then_follows Missing away (err_map (read_error Whole) w) (err_map (read_error Partial) p) _ _ (read_follows away (read_error Whole) (read_error Partial) (λ e. refl) w p follow) (λ o.
+      found_follows Missing away (with_strings of_whole) (with_strings of_part) o (λ t. map_follows Missing away _ (of_whole t) (of_part t) (each t)))
 
 module _ (whole : ObjectFile) (range : Ranges) (away : ℕ × ℕ → Bool) (each : ArePartOf whole away range) where
   abbrev part : FileOf Partial

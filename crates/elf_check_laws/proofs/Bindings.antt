@@ -24,7 +24,7 @@ use Rattle.elf_parts.specs.gnu_symver.Table.{Versions, index_of}
 use Rattle.elf.specs.Answers.{dynamic_symbol_table, symbol_version_table}
 use Rattle.elf.specs.Data.{section_data}
 use Rattle.elf.specs.Headers.{first_section_of}
-use Rattle.elf.specs.ObjectFile.{ObjectFile}
+use Rattle.elf.specs.ObjectFile.{ObjectFile, Whole}
 use Rattle.elf_hash_check.specs.NamedSymbols.{AreAllNamed, IsIndexedWithName}
 use Rattle.elf_hash_check.specs.Object.{ByGnu, BySysv, IsSound, Object, object_in}
 use Rattle.elf_hash_check.specs.WithSymbols.{symbol_and_name, with_symbols}
@@ -74,15 +74,15 @@ HasSymbols r object = (symbols : Table × List ℕ) × (r ≡ Ok (Some symbols))
 abbrev IsTable : Object → Object → Type 0
 IsTable object table = IsSound table × (object ≡ table)
 
-read_object : (q : Result Object ParseError) (object : Object) → IsOkAnd (or_fault q) (IsTable object) → q ≡ Ok object
+read_object : (q : Result Object ParseError) (object : Object) → IsOkAnd (or_fault Whole q) (IsTable object) → q ≡ Ok object
 read_object (Ok table) object h = ap (λ (x : Object). Ok x) (sym h.1)
 read_object (Err e) object h = absurd h
 
 abbrev parts_of : Result (List ℕ × Option CompressionHeader) ParseError → Result (Option (Table × List ℕ)) ParseError → Result (List ℕ × (Table × List ℕ)) ObjectFault
-parts_of d r = or_fault d >>= λ found. or_fault r >>= or_no_symbols >>= λ symbols. Ok (found.0, symbols)
+parts_of d r = or_fault Whole d >>= λ found. or_fault Whole r >>= or_no_symbols >>= λ symbols. Ok (found.0, symbols)
 
 in_section : (kind : HashKind) (little : Bool) (class : Class) (object : Object) (d : Result (List ℕ × Option CompressionHeader) ParseError) (r : Result (Option (Table × List ℕ)) ParseError) →
-    IsOkAnd (parts_of d r >>= λ parts. or_fault (object_in kind little class parts.0 parts.1.0 parts.1.1)) (IsTable object) → HasSymbols r object
+    IsOkAnd (parts_of d r >>= λ parts. or_fault Whole (object_in kind little class parts.0 parts.1.0 parts.1.1)) (IsTable object) → HasSymbols r object
 in_section kind little class object (Ok found) (Ok (Some symbols)) h =
     (symbols, refl, in_symbols kind little class found.0 symbols.0 symbols.1 object (read_object (object_in kind little class found.0 symbols.0 symbols.1) object h))
 in_section kind little class object (Ok found) (Ok None) h = absurd h

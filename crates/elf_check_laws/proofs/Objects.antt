@@ -16,7 +16,7 @@ use Rattle.elf_reading.specs.Versions.{is_of_type}
 use Rattle.elf.specs.Answers.{symbol_version_table, symbols_in, with_linked}
 use Rattle.elf.specs.Data.{section_data}
 use Rattle.elf.specs.Headers.{first_section_of, if_found}
-use Rattle.elf.specs.ObjectFile.{ObjectFile}
+use Rattle.elf.specs.ObjectFile.{ObjectFile, Whole}
 use Rattle.elf_hash_check.specs.Object.{IsSound, Object, object_in}
 use Rattle.elf_hash_check.specs.declared.hashcheck.any.HashKind.{HashKind}
 use Rattle.elf_hash_check.specs.declared.hashcheck.any.HashKind.TheVariants.{Gnu, Sysv}
@@ -40,36 +40,36 @@ abbrev Data : Type 0
 Data = Result (List ℕ × Option CompressionHeader) ParseError
 
 abbrev parts_of : Data → Result (Option (Table × List ℕ)) ParseError → Result (List ℕ × (Table × List ℕ)) ObjectFault
-parts_of d r = or_fault d >>= λ found. or_fault r >>= or_no_symbols >>= λ symbols. Ok (found.0, symbols)
+parts_of d r = or_fault Whole d >>= λ found. or_fault Whole r >>= or_no_symbols >>= λ symbols. Ok (found.0, symbols)
 
-object_read : (q : Result Object ParseError) → IsOkAnd q IsSound → IsOkAnd (or_fault q) IsSound
+object_read : (q : Result Object ParseError) → IsOkAnd q IsSound → IsOkAnd (or_fault Whole q) IsSound
 object_read (Ok object) sound = sound
 object_read (Err e) sound = absurd sound
 
 with_data : (d : Data) (make : List ℕ → Table → List ℕ → Result Object ParseError) (symbols : Table × List ℕ) →
     IsOkAnd (ok_map (λ found. found.0) d >>= λ bytes. make bytes symbols.0 symbols.1) IsSound →
-    IsOkAnd (parts_of d (Ok (Some symbols)) >>= λ parts. or_fault (make parts.0 parts.1.0 parts.1.1)) IsSound
+    IsOkAnd (parts_of d (Ok (Some symbols)) >>= λ parts. or_fault Whole (make parts.0 parts.1.0 parts.1.1)) IsSound
 with_data (Ok found) make symbols sound = object_read (make found.0 symbols.0 symbols.1) sound
 with_data (Err e) make symbols sound = absurd sound
 
 with_symbols_of : (d : Data) (make : List ℕ → Table → List ℕ → Result Object ParseError) (r : Result (Table × List ℕ) ParseError) →
     IsOkAnd (r >>= λ one. ok_map (λ found. found.0) d >>= λ bytes. make bytes one.0 one.1) IsSound →
-    IsOkAnd (parts_of d (ok_map Some r) >>= λ parts. or_fault (make parts.0 parts.1.0 parts.1.1)) IsSound
+    IsOkAnd (parts_of d (ok_map Some r) >>= λ parts. or_fault Whole (make parts.0 parts.1.0 parts.1.1)) IsSound
 with_symbols_of d make (Ok symbols) sound = with_data d make symbols sound
 with_symbols_of d make (Err e) sound = absurd sound
 
 with_link : (d : Data) (make : List ℕ → Table → List ℕ → Result Object ParseError) (w : Result (SectionHeader × SectionHeader) ParseError) (symbols : SectionHeader × SectionHeader → Result (Table × List ℕ) ParseError) →
     IsOkAnd ((w >>= symbols) >>= λ one. ok_map (λ found. found.0) d >>= λ bytes. make bytes one.0 one.1) IsSound →
-    IsOkAnd (parts_of d (ok_map Some w >>= if_found symbols) >>= λ parts. or_fault (make parts.0 parts.1.0 parts.1.1)) IsSound
+    IsOkAnd (parts_of d (ok_map Some w >>= if_found symbols) >>= λ parts. or_fault Whole (make parts.0 parts.1.0 parts.1.1)) IsSound
 with_link d make (Ok pair) symbols sound = with_symbols_of d make (symbols pair) sound
 with_link d make (Err e) symbols sound = absurd sound
 
 by_first : (kind : HashKind) (file : ObjectFile) (s : SectionHeader) (at : Result SectionHeader ParseError) (first : Option SectionHeader) → result_ok at ≡ first →
     IsOkAnd at (λ linked. IsTrue (holds_symbols linked) × IsOkAnd (hash_object kind file s linked) IsSound) →
-    IsOkAnd (parts_of (section_data file s) (if_found (with_linked file) first >>= if_found (symbols_in file)) >>= λ parts. or_fault (object_in kind file.little file.class parts.0 parts.1.0 parts.1.1)) IsSound
+    IsOkAnd (parts_of (section_data file s) (if_found (with_linked file) first >>= if_found (symbols_in file)) >>= λ parts. or_fault Whole (object_in kind file.little file.class parts.0 parts.1.0 parts.1.1)) IsSound
 by_first kind file s (Ok linked) (Some first) e sound =
     let same : linked ≡ first = cc e in
-    subst (λ (x : SectionHeader). IsOkAnd (parts_of (section_data file s) (if_found (with_linked file) (Some x) >>= if_found (symbols_in file)) >>= λ parts. or_fault (object_in kind file.little file.class parts.0 parts.1.0 parts.1.1)) IsSound) same
+    subst (λ (x : SectionHeader). IsOkAnd (parts_of (section_data file s) (if_found (with_linked file) (Some x) >>= if_found (symbols_in file)) >>= λ parts. or_fault Whole (object_in kind file.little file.class parts.0 parts.1.0 parts.1.1)) IsSound) same
     (with_link (section_data file s) (object_in kind file.little file.class) (with_linked file linked) (symbols_in file) sound.1)
 by_first kind file s (Ok linked) None e sound = absurd (cc e)
 by_first kind file s (Err x) first e sound = absurd sound

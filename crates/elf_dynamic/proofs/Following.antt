@@ -1,5 +1,5 @@
 -- What is read of a partly loaded file is that of the whole file, or a range is missing.
-use Rattle.std.proofs.Common.{◌≡◌, ℕ, ℤ, Bool, true, false, List, inl, inr, Option, Some, None, Result, Ok, Err, refl, ap, if◌then◌else◌}
+use Rattle.std.proofs.Common.{◌≡◌, ℕ, ℤ, Bool, true, false, List, inl, inr, Option, Some, None, Result, Ok, Err, refl, ap, ◌∙◌, if◌then◌else◌}
 use Rattle.std.specs.Option.{option_map}
 use Rattle.elf_parts.specs.gnu_symver.Lists.{ver_defs, ver_needs}
 use Rattle.elf_parts.specs.gnu_symver.Records.{version_index_layout}
@@ -17,108 +17,116 @@ use Rattle.elf.specs.Headers.{first_segment_of, if_found}
 use Rattle.elf.specs.ObjectFile.{FileOf, ObjectFile, Partial, Whole, err_map, records_of, table_of}
 use Rattle.elf.specs.Parts.{ArePartOf, Follows, Ranges, loaded}
 use Rattle.elf.specs.declared.read_error.ReadError.{ReadError}
+use Rattle.elf.specs.declared.read_error.ReadError.TheVariants.{NotLoaded, Parse}
 use Rattle.elf.proofs.Partly.{follows_found, follows_map}
 use Rattle.elf_dynamic.specs.declared.dynamic_view.error.DynamicError.{DynamicError}
-use Rattle.elf_dynamic.specs.declared.dynamic_view.error.DynamicError.TheVariants.{UnknownKind}
+use Rattle.elf_dynamic.specs.declared.dynamic_view.error.DynamicError.TheVariants.{Missing, UnknownKind}
 use Rattle.elf_dynamic.specs.dynamic_view.Entries.{dynamic_table, entry_size, read_error, required, value_of}
-use Rattle.elf_dynamic.specs.dynamic_view.Hashes.{gnu_at, gnu_count, gnu_from, gnu_hash, gnu_until, sysv_at, sysv_hash, sysv_header, sysv_size}
-use Rattle.elf_dynamic.specs.dynamic_view.Laws.{FollowsWhole, ViewFollows}
-use Rattle.elf_dynamic.specs.dynamic_view.Relocations.{PltList, Rels, Relas, is_kind, plt_at, plt_of, plt_relocations, relas, relr_bytes, rels, table_at, table_bytes}
+use Rattle.elf_dynamic.specs.dynamic_view.Hashes.{gnu_at, gnu_count, gnu_from, sysv_at, sysv_header, sysv_size}
+use Rattle.elf_dynamic.specs.dynamic_view.Laws.{FollowsBy, FollowsWhole, ViewFollows}
+use Rattle.elf_dynamic.specs.dynamic_view.Relocations.{PltList, Rels, Relas, is_kind, plt_at, plt_of, plt_relocations, table_at, table_bytes}
 use Rattle.elf_dynamic.specs.dynamic_view.Segments.{bytes_from, bytes_of, part_of, range_of, records_part, rest_of}
 use Rattle.elf_dynamic.specs.dynamic_view.Strings.{string_part, strings}
 use Rattle.elf_dynamic.specs.dynamic_view.Symbols.{count_by, count_by_gnu, known_count, symbol_count, symbol_part, symbols}
 use Rattle.elf_dynamic.specs.dynamic_view.Tags.{dt_gnu_hash, dt_hash, dt_jmprel, dt_pltrel, dt_pltrelsz, dt_rel, dt_rela, dt_relaent, dt_relasz, dt_relent, dt_relr, dt_relrent, dt_relrsz, dt_relsz, dt_symtab, dt_syment, dt_verdef, dt_verdefnum, dt_verneed, dt_verneednum, dt_versym}
 use Rattle.elf_dynamic.specs.dynamic_view.Versions.{indexes_at, version_definitions, version_entries, version_indexes, version_needs, versions, versions_of}
 
-module _ (is_missing : ℕ × ℕ → Bool) where
-  read_follows : {A : Type 0} (x : Result A ParseError) (y : Result A ReadError) → Follows is_missing x y → ViewFollows is_missing (err_map (read_error Whole) x) (err_map (read_error Partial) y)
-  read_follows (Ok a) y (inl h) = inl (ap (err_map (read_error Partial)) h)
-  read_follows (Err e) y (inl h) = inl (ap (err_map (read_error Partial)) h)
-  read_follows x y (inr h) = inr (h.0, h.1, ap (err_map (read_error Partial)) h.2)
-
-  then_follows : {A B : Type 0} (x y : Result A DynamicError) (f g : A → Result B DynamicError) → ViewFollows is_missing x y → ((a : A) → ViewFollows is_missing (f a) (g a)) → ViewFollows is_missing (x >>= f) (y >>= g)
+module _ {E : Type 0} (missing : ℕ × ℕ → E) (is_missing : ℕ × ℕ → Bool) where
+  pub then_follows : {A B : Type 0} (x y : Result A E) (f g : A → Result B E) → FollowsBy missing is_missing x y → ((a : A) → FollowsBy missing is_missing (f a) (g a)) → FollowsBy missing is_missing (x >>= f) (y >>= g)
   then_follows (Ok a) y f g (inl h) later = rw h (later a)
   then_follows (Err e) y f g (inl h) later = inl (ap (λ r. r >>= g) h)
   then_follows x y f g (inr h) later = inr (h.0, h.1, ap (λ r. r >>= g) h.2)
 
   -- a step that reads nothing
-  same_then : {A B : Type 0} (x : Result A DynamicError) (f g : A → Result B DynamicError) → ((a : A) → ViewFollows is_missing (f a) (g a)) → ViewFollows is_missing (x >>= f) (x >>= g)
+  pub same_then : {A B : Type 0} (x : Result A E) (f g : A → Result B E) → ((a : A) → FollowsBy missing is_missing (f a) (g a)) → FollowsBy missing is_missing (x >>= f) (x >>= g)
   same_then x f g later = then_follows x x f g (inl refl) later
 
-  map_follows : {A B : Type 0} (f : A → B) (x y : Result A DynamicError) → ViewFollows is_missing x y → ViewFollows is_missing (ok_map f x) (ok_map f y)
+  pub map_follows : {A B : Type 0} (f : A → B) (x y : Result A E) → FollowsBy missing is_missing x y → FollowsBy missing is_missing (ok_map f x) (ok_map f y)
   map_follows f x y (inl h) = inl (ap (ok_map f) h)
   map_follows f x y (inr h) = inr (h.0, h.1, ap (ok_map f) h.2)
 
-  found_follows : {A B : Type 0} (f g : A → Result B DynamicError) (o : Option A) → ((a : A) → ViewFollows is_missing (f a) (g a)) → ViewFollows is_missing (if_found f o) (if_found g o)
+  pub found_follows : {A B : Type 0} (f g : A → Result B E) (o : Option A) → ((a : A) → FollowsBy missing is_missing (f a) (g a)) → FollowsBy missing is_missing (if_found f o) (if_found g o)
   found_follows f g None each = inl refl
   found_follows f g (Some a) each = map_follows Some (f a) (g a) (each a)
 
-  if_follows : {A : Type 0} (test : Bool) (p q r s : Result A DynamicError) → ViewFollows is_missing p q → ViewFollows is_missing r s → ViewFollows is_missing (if test then p else r) (if test then q else s)
+  pub if_follows : {A : Type 0} (test : Bool) (p q r s : Result A E) → FollowsBy missing is_missing p q → FollowsBy missing is_missing r s → FollowsBy missing is_missing (if test then p else r) (if test then q else s)
   if_follows true p q r s h k = h
   if_follows false p q r s h k = k
+
+-- with its error said in another way
+pub said_follows : {A E F : Type 0} (missing : ℕ × ℕ → E) (is_missing : ℕ × ℕ → Bool) (to : E → F) (x y : Result A E) → FollowsBy missing is_missing x y → FollowsBy (λ range. to (missing range)) is_missing (err_map to x) (err_map to y)
+said_follows missing is_missing to x y (inl h) = inl (ap (err_map to) h)
+said_follows missing is_missing to x y (inr h) = inr (h.0, h.1, ap (err_map to) h.2)
+
+-- of a reader
+pub read_follows : {A F : Type 0} (is_missing : ℕ × ℕ → Bool) (to : ParseError → F) (part_to : ReadError → F) → ((e : ParseError) → part_to (Parse e) ≡ to e) → (x : Result A ParseError) (y : Result A ReadError) → Follows is_missing x y
+    → FollowsBy (λ range. part_to (NotLoaded range)) is_missing (err_map to x) (err_map part_to y)
+read_follows is_missing to part_to same (Ok a) y (inl h) = inl (ap (err_map part_to) h)
+read_follows is_missing to part_to same (Err e) y (inl h) = inl (ap (err_map part_to) h ∙ ap Err (same e))
+read_follows is_missing to part_to same x y (inr h) = inr (h.0, h.1, ap (err_map part_to) h.2)
 
 module _ (whole : ObjectFile) (range : Ranges) (is_missing : ℕ × ℕ → Bool) (each : ArePartOf whole is_missing range) where
   abbrev part : FileOf Partial
   part = loaded whole range
 
   range_follows : (p : ℕ × ℕ) → ViewFollows is_missing (range_of whole p) (range_of part p)
-  range_follows p = read_follows is_missing (whole.range p.0 p.1) (range p.0 p.1) (each p.0 p.1)
+  range_follows p = read_follows is_missing (read_error Whole) (read_error Partial) (λ e. refl) (whole.range p.0 p.1) (range p.0 p.1) (each p.0 p.1)
 
   table_follows : ViewFollows is_missing (dynamic_table whole) (dynamic_table part)
   table_follows =
-      read_follows is_missing (if_found (segment_dynamic whole) (first_segment_of 2 whole.segments)) (if_found (segment_dynamic part) (first_segment_of 2 whole.segments))
+      read_follows is_missing (read_error Whole) (read_error Partial) (λ e. refl) (if_found (segment_dynamic whole) (first_segment_of 2 whole.segments)) (if_found (segment_dynamic part) (first_segment_of 2 whole.segments))
       (follows_found is_missing (segment_dynamic whole) (segment_dynamic part) (first_segment_of 2 whole.segments) (λ (p : ProgramHeader).
       follows_map is_missing (table_of whole) (whole.range p.p_offset p.p_filesz) (range p.p_offset p.p_filesz) (each p.p_offset p.p_filesz)))
 
   bytes_follow : (a n : ℕ) → ViewFollows is_missing (bytes_of whole a n) (bytes_of part a n)
-  bytes_follow a n = same_then is_missing (part_of whole.segments a n) (range_of whole) (range_of part) range_follows
+  bytes_follow a n = same_then Missing is_missing (part_of whole.segments a n) (range_of whole) (range_of part) range_follows
 
   rest_follows : (a : ℕ) → ViewFollows is_missing (bytes_from whole a) (bytes_from part a)
-  rest_follows a = same_then is_missing (rest_of whole.segments a) (range_of whole) (range_of part) range_follows
+  rest_follows a = same_then Missing is_missing (rest_of whole.segments a) (range_of whole) (range_of part) range_follows
 
   strings_follow : (es : List Dyn) → ViewFollows is_missing (strings whole es) (strings part es)
-  strings_follow es = same_then is_missing (string_part whole.segments es) (range_of whole) (range_of part) range_follows
+  strings_follow es = same_then Missing is_missing (string_part whole.segments es) (range_of whole) (range_of part) range_follows
 
   header_follows : (a : ℕ) → ViewFollows is_missing (sysv_header whole a) (sysv_header part a)
-  header_follows a = then_follows is_missing (bytes_of whole a 8) (bytes_of part a 8) _ _ (bytes_follow a 8) (λ _. inl refl)
+  header_follows a = then_follows Missing is_missing (bytes_of whole a 8) (bytes_of part a 8) _ _ (bytes_follow a 8) (λ _. inl refl)
 
   sysv_follows : (a : ℕ) → ViewFollows is_missing (sysv_at whole a) (sysv_at part a)
   sysv_follows a =
-      then_follows is_missing (sysv_header whole a) (sysv_header part a) _ _ (header_follows a) (λ header.
-      then_follows is_missing (bytes_of whole a (sysv_size header)) (bytes_of part a (sysv_size header)) _ _ (bytes_follow a (sysv_size header)) (λ _. inl refl))
+      then_follows Missing is_missing (sysv_header whole a) (sysv_header part a) _ _ (header_follows a) (λ header.
+      then_follows Missing is_missing (bytes_of whole a (sysv_size header)) (bytes_of part a (sysv_size header)) _ _ (bytes_follow a (sysv_size header)) (λ _. inl refl))
 
   gnu_follows : (a : ℕ) → ViewFollows is_missing (gnu_from whole a) (gnu_from part a)
-  gnu_follows a = then_follows is_missing (bytes_from whole a) (bytes_from part a) _ _ (rest_follows a) (λ _. inl refl)
+  gnu_follows a = then_follows Missing is_missing (bytes_from whole a) (bytes_from part a) _ _ (rest_follows a) (λ _. inl refl)
 
   gnu_at_follows : (a : ℕ) → ViewFollows is_missing (gnu_at whole a) (gnu_at part a)
-  gnu_at_follows a = then_follows is_missing (gnu_from whole a) (gnu_from part a) _ _ (gnu_follows a) (λ _. inl refl)
+  gnu_at_follows a = then_follows Missing is_missing (gnu_from whole a) (gnu_from part a) _ _ (gnu_follows a) (λ _. inl refl)
 
   count_by_follows : (sysv gnu : Option ℕ) → ViewFollows is_missing (count_by whole sysv gnu) (count_by part sysv gnu)
-  count_by_follows (Some a) gnu = map_follows is_missing (λ header. Some header.nchain) (sysv_header whole a) (sysv_header part a) (header_follows a)
-  count_by_follows None gnu = found_follows is_missing (count_by_gnu whole) (count_by_gnu part) gnu (λ a.
-      then_follows is_missing (gnu_from whole a) (gnu_from part a) gnu_count gnu_count (gnu_follows a) (λ _. inl refl))
+  count_by_follows (Some a) gnu = map_follows Missing is_missing (λ header. Some header.nchain) (sysv_header whole a) (sysv_header part a) (header_follows a)
+  count_by_follows None gnu = found_follows Missing is_missing (count_by_gnu whole) (count_by_gnu part) gnu (λ a.
+      then_follows Missing is_missing (gnu_from whole a) (gnu_from part a) gnu_count gnu_count (gnu_follows a) (λ _. inl refl))
 
   count_follows : (es : List Dyn) → ViewFollows is_missing (symbol_count whole es) (symbol_count part es)
   count_follows es = count_by_follows (value_of dt_hash es) (value_of dt_gnu_hash es)
 
   known_follows : (es : List Dyn) → ViewFollows is_missing (known_count whole es) (known_count part es)
-  known_follows es = then_follows is_missing (symbol_count whole es) (symbol_count part es) _ _ (count_follows es) (λ _. inl refl)
+  known_follows es = then_follows Missing is_missing (symbol_count whole es) (symbol_count part es) _ _ (count_follows es) (λ _. inl refl)
 
   symbol_part_follows : (es : List Dyn) → ViewFollows is_missing (symbol_part whole es) (symbol_part part es)
   symbol_part_follows es =
-      same_then is_missing (required dt_symtab es) _ _ (λ a. same_then is_missing (entry_size dt_syment (size_by symbol_layout whole.class) es) _ _ (λ size.
-      then_follows is_missing (known_count whole es) (known_count part es) _ _ (known_follows es) (λ _. inl refl)))
+      same_then Missing is_missing (required dt_symtab es) _ _ (λ a. same_then Missing is_missing (entry_size dt_syment (size_by symbol_layout whole.class) es) _ _ (λ size.
+      then_follows Missing is_missing (known_count whole es) (known_count part es) _ _ (known_follows es) (λ _. inl refl)))
 
   table_of_follows : (p : ℕ × ℕ) → ViewFollows is_missing (ok_map (table_of whole) (range_of whole p)) (ok_map (table_of part) (range_of part p))
-  table_of_follows p = map_follows is_missing (table_of whole) (range_of whole p) (range_of part p) (range_follows p)
+  table_of_follows p = map_follows Missing is_missing (table_of whole) (range_of whole p) (range_of part p) (range_follows p)
 
   symbols_follow : (es : List Dyn) → ViewFollows is_missing (symbols whole es) (symbols part es)
-  symbols_follow es = then_follows is_missing (symbol_part whole es) (symbol_part part es) _ _ (symbol_part_follows es) table_of_follows
+  symbols_follow es = then_follows Missing is_missing (symbol_part whole es) (symbol_part part es) _ _ (symbol_part_follows es) table_of_follows
 
   sized_follows : (address size entry : ℤ) (n : ℕ) (es : List Dyn) → ViewFollows is_missing (table_bytes whole address size entry n es) (table_bytes part address size entry n es)
   sized_follows address size entry n es =
-      found_follows is_missing (table_at whole size entry n es) (table_at part size entry n es) (value_of address es) (λ a.
-      same_then is_missing (required size es) _ _ (λ total. same_then is_missing (entry_size entry n es) _ _ (λ _. bytes_follow a total)))
+      found_follows Missing is_missing (table_at whole size entry n es) (table_at part size entry n es) (value_of address es) (λ a.
+      same_then Missing is_missing (required size es) _ _ (λ total. same_then Missing is_missing (entry_size entry n es) _ _ (λ _. bytes_follow a total)))
 
   abbrev to_rels : List ℕ → PltList
   to_rels bytes = Rels (records_of rel_reads whole bytes)
@@ -129,37 +137,37 @@ module _ (whole : ObjectFile) (range : Ranges) (is_missing : ℕ × ℕ → Bool
   plt_of_follows : (kind a n : ℕ) → ViewFollows is_missing (plt_of whole kind a n) (plt_of part kind a n)
   plt_of_follows kind a n =
       let refused : Result PltList DynamicError = Err (UnknownKind kind) in
-      let rels = map_follows is_missing to_rels (bytes_of whole a n) (bytes_of part a n) (bytes_follow a n) in
-      let relas = map_follows is_missing to_relas (bytes_of whole a n) (bytes_of part a n) (bytes_follow a n) in
-      if_follows is_missing (is_kind dt_rel kind) _ _ _ _ rels (if_follows is_missing (is_kind dt_rela kind) _ _ refused refused relas (inl refl))
+      let rels = map_follows Missing is_missing to_rels (bytes_of whole a n) (bytes_of part a n) (bytes_follow a n) in
+      let relas = map_follows Missing is_missing to_relas (bytes_of whole a n) (bytes_of part a n) (bytes_follow a n) in
+      if_follows Missing is_missing (is_kind dt_rel kind) _ _ _ _ rels (if_follows Missing is_missing (is_kind dt_rela kind) _ _ refused refused relas (inl refl))
 
   plt_follows : (es : List Dyn) → ViewFollows is_missing (plt_relocations whole es) (plt_relocations part es)
-  plt_follows es = found_follows is_missing (plt_at whole es) (plt_at part es) (value_of dt_jmprel es) (λ a.
-      same_then is_missing (required dt_pltrelsz es) _ _ (λ size. same_then is_missing (required dt_pltrel es) _ _ (λ kind. plt_of_follows kind a size)))
+  plt_follows es = found_follows Missing is_missing (plt_at whole es) (plt_at part es) (value_of dt_jmprel es) (λ a.
+      same_then Missing is_missing (required dt_pltrelsz es) _ _ (λ size. same_then Missing is_missing (required dt_pltrel es) _ _ (λ kind. plt_of_follows kind a size)))
 
   indexes_follow : (es : List Dyn) → ViewFollows is_missing (version_indexes whole es) (version_indexes part es)
-  indexes_follow es = found_follows is_missing (indexes_at whole es) (indexes_at part es) (value_of dt_versym es) (λ a.
-      then_follows is_missing (known_count whole es) (known_count part es) _ _ (known_follows es) (λ count.
-      same_then is_missing (records_part whole.segments a count (size_by version_index_layout whole.class)) _ _ table_of_follows))
+  indexes_follow es = found_follows Missing is_missing (indexes_at whole es) (indexes_at part es) (value_of dt_versym es) (λ a.
+      then_follows Missing is_missing (known_count whole es) (known_count part es) _ _ (known_follows es) (λ count.
+      same_then Missing is_missing (records_part whole.segments a count (size_by version_index_layout whole.class)) _ _ table_of_follows))
 
   entries_follow : {V A : Type 0} (from : Table → ℕ → ℕ → List (V × List A)) (tag : ℤ) (es : List Dyn) (a : ℕ) → ViewFollows is_missing (version_entries from whole tag es a) (version_entries from part tag es a)
   entries_follow from tag es a =
-      same_then is_missing (required tag es) _ _ (λ count.
-      then_follows is_missing (bytes_from whole a) (bytes_from part a) _ _ (rest_follows a) (λ bytes.
-      then_follows is_missing (strings whole es) (strings part es) _ _ (strings_follow es) (λ names. inl refl)))
+      same_then Missing is_missing (required tag es) _ _ (λ count.
+      then_follows Missing is_missing (bytes_from whole a) (bytes_from part a) _ _ (rest_follows a) (λ bytes.
+      then_follows Missing is_missing (strings whole es) (strings part es) _ _ (strings_follow es) (λ names. inl refl)))
 
   needs_follow : (es : List Dyn) → ViewFollows is_missing (version_needs whole es) (version_needs part es)
-  needs_follow es = found_follows is_missing (version_entries ver_needs whole dt_verneednum es) (version_entries ver_needs part dt_verneednum es) (value_of dt_verneed es) (entries_follow ver_needs dt_verneednum es)
+  needs_follow es = found_follows Missing is_missing (version_entries ver_needs whole dt_verneednum es) (version_entries ver_needs part dt_verneednum es) (value_of dt_verneed es) (entries_follow ver_needs dt_verneednum es)
 
   definitions_follow : (es : List Dyn) → ViewFollows is_missing (version_definitions whole es) (version_definitions part es)
-  definitions_follow es = found_follows is_missing (version_entries ver_defs whole dt_verdefnum es) (version_entries ver_defs part dt_verdefnum es) (value_of dt_verdef es) (entries_follow ver_defs dt_verdefnum es)
+  definitions_follow es = found_follows Missing is_missing (version_entries ver_defs whole dt_verdefnum es) (version_entries ver_defs part dt_verdefnum es) (value_of dt_verdef es) (entries_follow ver_defs dt_verdefnum es)
 
   versions_follow : (es : List Dyn) → ViewFollows is_missing (versions whole es) (versions part es)
   versions_follow es =
-      then_follows is_missing (version_indexes whole es) (version_indexes part es) _ _ (indexes_follow es) (λ o.
-      found_follows is_missing (versions_of whole es) (versions_of part es) o (λ indexes.
-      then_follows is_missing (version_needs whole es) (version_needs part es) _ _ (needs_follow es) (λ needs.
-      then_follows is_missing (version_definitions whole es) (version_definitions part es) _ _ (definitions_follow es) (λ definitions. inl refl))))
+      then_follows Missing is_missing (version_indexes whole es) (version_indexes part es) _ _ (indexes_follow es) (λ o.
+      found_follows Missing is_missing (versions_of whole es) (versions_of part es) o (λ indexes.
+      then_follows Missing is_missing (version_needs whole es) (version_needs part es) _ _ (needs_follow es) (λ needs.
+      then_follows Missing is_missing (version_definitions whole es) (version_definitions part es) _ _ (definitions_follow es) (λ definitions. inl refl))))
 
   pub all_follow : FollowsWhole is_missing whole part
   all_follow = record {
@@ -169,10 +177,10 @@ module _ (whole : ObjectFile) (range : Ranges) (is_missing : ℕ × ℕ → Bool
     strings = strings_follow;
     symbol_count = count_follows;
     symbols = symbols_follow;
-    sysv_hash = λ es. found_follows is_missing (sysv_at whole) (sysv_at part) (value_of dt_hash es) sysv_follows;
-    gnu_hash = λ es. found_follows is_missing (gnu_at whole) (gnu_at part) (value_of dt_gnu_hash es) gnu_at_follows;
-    rels = λ es. map_follows is_missing (option_map (records_of rel_reads whole)) _ _ (sized_follows dt_rel dt_relsz dt_relent (size_by rel_layout whole.class) es);
-    relas = λ es. map_follows is_missing (option_map (records_of rela_reads whole)) _ _ (sized_follows dt_rela dt_relasz dt_relaent (size_by rela_layout whole.class) es);
+    sysv_hash = λ es. found_follows Missing is_missing (sysv_at whole) (sysv_at part) (value_of dt_hash es) sysv_follows;
+    gnu_hash = λ es. found_follows Missing is_missing (gnu_at whole) (gnu_at part) (value_of dt_gnu_hash es) gnu_at_follows;
+    rels = λ es. map_follows Missing is_missing (option_map (records_of rel_reads whole)) _ _ (sized_follows dt_rel dt_relsz dt_relent (size_by rel_layout whole.class) es);
+    relas = λ es. map_follows Missing is_missing (option_map (records_of rela_reads whole)) _ _ (sized_follows dt_rela dt_relasz dt_relaent (size_by rela_layout whole.class) es);
     relr_bytes = λ es. sized_follows dt_relr dt_relrsz dt_relrent (address_size whole.class) es;
     plt = plt_follows;
     indexes = indexes_follow;

@@ -1,8 +1,9 @@
 -- The first of the bytes whose sequences are replaced.
-use Rattle.std.proofs.Common.{◌≡◌, ℕ, zero, suc, ◌+◌, ◌-◌, ◌<◌, true, false, ◌==◌, List, [], ◌∷◌, ◌++◌, length, refl, sym, ap, ◌∙◌, arith, get_or, drop}
+use Rattle.std.proofs.Common.{◌≡◌, ℕ, zero, suc, ◌+◌, ◌-◌, ◌<◌, nat_lt, true, false, ◌==◌, List, [], ◌∷◌, ◌++◌, length, refl, sym, ap, ◌∙◌, arith, get_or, drop}
+use Rattle.std.proofs.lemmas.Bool.Decides.{nat_tests}
 use Rattle.std.specs.Prelude.{cond, take}
 use Rattle.std.specs.List.{list_any}
-use Rattle.elf_linking.specs.Search.{Places, Tokens, candidates_of, expansion_after, paths_of, sequence}
+use Rattle.elf_linking.specs.Search.{Places, Tokens, candidates_of, expansion_after, path_max, paths_of, sequence}
 
 module _ (tokens : Tokens) where
   pub skips_first : (bytes : List ℕ) (skip : ℕ) → 0 < length bytes → 0 < skip → expansion_after tokens skip bytes ≡ expansion_after tokens (skip - 1) (drop 1 bytes)
@@ -36,8 +37,10 @@ rest_taken xs zero = let whole : length xs - 0 ≡ length xs = omega arith in ap
 rest_taken {X} [] (suc n) = let none : 0 - suc n ≡ 0 = omega arith in ap (λ k. take {A = X} k []) none
 rest_taken (x ∷ xs) (suc n) = let fewer : suc (length xs) - suc n ≡ length xs - n = omega arith in ap (λ k. take k (drop n xs)) fewer ∙ rest_taken xs n
 
--- the paths of a name without a slash
-pub without_slash : (name other : List ℕ) (a b : Places) → list_any (λ k. k == 47) name ≡ false → name ≡ other → a ≡ b → paths_of name a ≡ candidates_of other b
-without_slash name other a b none same all =
+-- the paths of a name without a slash, which some path can have
+pub without_slash : (name other : List ℕ) (a b : Places) → list_any (λ k. k == 47) name ≡ false → length name < path_max → name ≡ other → a ≡ b → paths_of name a ≡ candidates_of other b
+without_slash name other a b none less same all =
+    let short : nat_lt (length name) path_max ≡ true = grind (arith, nat_tests, less) in
+    let rest = cond (nat_lt (length other) path_max) (paths_of other b) [] in
     ap (λ n. paths_of n a) same ∙ ap (paths_of other) all
-    ∙ sym (ap (λ t. cond t (other ∷ []) (paths_of other b)) (ap (list_any (λ k. k == 47)) (sym same) ∙ none))
+    ∙ sym (ap (λ t. cond t (other ∷ []) rest) (ap (list_any (λ k. k == 47)) (sym same) ∙ none) ∙ ap (λ t. cond t (paths_of other b) []) (ap (λ n. nat_lt (length n) path_max) (sym same) ∙ short))

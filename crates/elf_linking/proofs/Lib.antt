@@ -3,6 +3,8 @@ pub mod Tables
 pub mod Missing
 pub mod Naming
 pub mod BySegments
+pub mod Linked
+pub mod Whole
 pub mod Expanding
-mod Loading
+pub mod Loading
 mod Opening

@@ -1,9 +1,7 @@
 -- The names of a partly loaded file.
-use Rattle.std.proofs.Common.{◌≡◌, inl, inr, ℕ, Bool, true, false, List, [], ◌∷◌, Result, Ok, Err, Option, Some, None, refl, ap, sym, subst, ◌∙◌, true≢false}
+use Rattle.std.proofs.Common.{◌≡◌, inl, inr, ℕ, Bool, false, List, Result, Err, Option, Some, None, refl, ap, sym, subst, ◌∙◌, true≢false}
 use Rattle.std.specs.Prelude.{IfSome}
 use Rattle.std.specs.Option.{option_map}
-use Rattle.elf_records.specs.Number.{ok_map}
-use Rattle.elf_records.specs.Record.{◌>>=◌}
 use Rattle.elf_records.specs.declared.dynamic.Dyn.{Dyn}
 use Rattle.elf_records.specs.declared.parse.ParseError.{ParseError}
 use Rattle.elf.specs.Answers.{dynamic}
@@ -11,14 +9,14 @@ use Rattle.elf.specs.ElfStream.{Keeps, StreamView}
 use Rattle.elf_reading.specs.Refusals.{IsRefused, kind}
 use Rattle.elf.specs.Headers.{if_found}
 use Rattle.elf.specs.Loaded.{AreLoadedOf, is_not_cached, loaded_ranges}
-use Rattle.elf.specs.ObjectFile.{FileOf, ObjectFile, Partial, Whole, err_map}
-use Rattle.elf.specs.Parts.{ArePartOf, Follows, Ranges, all_ranges, loaded}
+use Rattle.elf.specs.ObjectFile.{FileOf, ObjectFile, Partial, Whole}
+use Rattle.elf.specs.Parts.{ArePartOf, Ranges, all_ranges, loaded}
 use Rattle.elf.specs.StreamFile.{stream_file}
-use Rattle.elf.specs.declared.read_error.ReadError.{ReadError}
 use Rattle.elf.specs.Readers.{Dynamic}
 use Rattle.elf.proofs.Partly.{follows_map, part_follows}
 use Rattle.elf.proofs.stream.Parted.{streamed_loaded}
 use Rattle.elf_dynamic.specs.dynamic_view.Entries.{entries_in}
+use Rattle.elf_dynamic.proofs.Following.{found_follows, read_follows, then_follows}
 use Rattle.elf_linking.specs.Missing.{loaded_part}
 use Rattle.elf_linking.specs.Needed.{IsAnswered, IsNamesAnswer, Named, NamesFollow, entries_of, missing_of}
 use Rattle.elf_linking.specs.Needed.{names, names_by, names_in, read_error, string_part, strings_by}
@@ -28,39 +26,20 @@ use Rattle.elf_linking.specs.declared.needed.NamesError.TheVariants.{NotLoaded, 
 
 -- ---- the names of a part are those of the whole file, or a range is missing
 
-module _ (is_missing : ℕ × ℕ → Bool) where
-  read_follows : {A : Type 0} (x : Result A ParseError) (y : Result A ReadError) → Follows is_missing x y → NamesFollow is_missing (err_map (read_error Whole) x) (err_map (read_error Partial) y)
-  read_follows (Ok a) y (inl h) = inl (ap (err_map (read_error Partial)) h)
-  read_follows (Err e) y (inl h) = inl (ap (err_map (read_error Partial)) h)
-  read_follows x y (inr h) = inr (h.0, h.1, ap (err_map (read_error Partial)) h.2)
-
-  then_follows : {A B : Type 0} (x y : Result A NamesError) (f g : A → Result B NamesError) → NamesFollow is_missing x y → ((a : A) → NamesFollow is_missing (f a) (g a)) → NamesFollow is_missing (x >>= f) (y >>= g)
-  then_follows (Ok a) y f g (inl h) later = rw h (later a)
-  then_follows (Err e) y f g (inl h) later = inl (ap (λ r. r >>= g) h)
-  then_follows x y f g (inr h) later = inr (h.0, h.1, ap (λ r. r >>= g) h.2)
-
-  some_follows : {A : Type 0} (x y : Result A NamesError) → NamesFollow is_missing x y → NamesFollow is_missing (ok_map Some x) (ok_map Some y)
-  some_follows x y (inl h) = inl (ap (ok_map Some) h)
-  some_follows x y (inr h) = inr (h.0, h.1, ap (ok_map Some) h.2)
-
-  if_follows : {A B : Type 0} (f g : A → Result B NamesError) (o : Option A) → ((a : A) → NamesFollow is_missing (f a) (g a)) → NamesFollow is_missing (if_found f o) (if_found g o)
-  if_follows f g None each = inl refl
-  if_follows f g (Some a) each = some_follows (f a) (g a) (each a)
-
 module _ (whole : ObjectFile) (range : Ranges) (is_missing : ℕ × ℕ → Bool) (each : ArePartOf whole is_missing range) where
   abbrev part : FileOf Partial
   part = loaded whole range
 
   pub strings_follow : (entries : List Dyn) → NamesFollow is_missing (strings_by whole entries) (strings_by part entries)
   strings_follow entries =
-      then_follows is_missing (string_part whole.segments entries) (string_part whole.segments entries) _ _ (inl refl) (λ p. read_follows is_missing (whole.range p.0 p.1) (range p.0 p.1) (each p.0 p.1))
+      then_follows Missing is_missing (string_part whole.segments entries) (string_part whole.segments entries) _ _ (inl refl) (λ p. read_follows is_missing (read_error Whole) (read_error Partial) (λ e. refl) (whole.range p.0 p.1) (range p.0 p.1) (each p.0 p.1))
 
   pub names_follow : NamesFollow is_missing (names whole) (names part)
   names_follow =
-      then_follows is_missing (entries_of whole) (entries_of part) (if_found (names_by whole)) (if_found (names_by part))
-      (read_follows is_missing _ _ (follows_map is_missing (option_map entries_in) (dynamic whole) (dynamic part) (part_follows whole range is_missing each Dynamic))) (λ o.
-      if_follows is_missing (names_by whole) (names_by part) o (λ entries.
-      then_follows is_missing (strings_by whole entries) (strings_by part entries) (λ strings. names_in strings entries) (λ strings. names_in strings entries) (strings_follow entries) (λ strings. inl refl)))
+      then_follows Missing is_missing (entries_of whole) (entries_of part) (if_found (names_by whole)) (if_found (names_by part))
+      (read_follows is_missing (read_error Whole) (read_error Partial) (λ e. refl) _ _ (follows_map is_missing (option_map entries_in) (dynamic whole) (dynamic part) (part_follows whole range is_missing each Dynamic))) (λ o.
+      found_follows Missing is_missing (names_by whole) (names_by part) o (λ entries.
+      then_follows Missing is_missing (strings_by whole entries) (strings_by part entries) (λ strings. names_in strings entries) (λ strings. names_in strings entries) (strings_follow entries) (λ strings. inl refl)))
 
 nothing_missing : {A : Type 0} (whole other : Result A NamesError) → NamesFollow (λ _. false) whole other → other ≡ whole
 nothing_missing whole other (inl h) = h

@@ -11,7 +11,7 @@ use Rattle.elf_parts.specs.declared.gnu_symver.records.VersionIndex.{VersionInde
 use Rattle.elf_parts.specs.declared.gnu_symver.table.SymbolRequirement.{SymbolRequirement}
 use Rattle.elf_parts.specs.gnu_symver.VersionEntry.{ByNeed, VersionEntry, required_with, version_entry}
 use Rattle.elf_parts.proofs.VersionEntries.{definition_by_index, entry_defined, entry_needed, requirement_by_index}
-use Rattle.elf_linking.specs.Binding.{Defined, Needed, NamedEntry, Nothing, defined_as, entry_by, first_name, named_version}
+use Rattle.elf_linking.specs.Binding.{Defined, Needed, Nothing, defined_as, entry_by, first_name, named_version}
 use Rattle.elf_linking.specs.Binding.{needed_by, symbol_entry, unreadable}
 use denote.Ref.{Bor}
 

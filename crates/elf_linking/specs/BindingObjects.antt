@@ -4,11 +4,10 @@ use Rattle.std.specs.Option.{IsSomeAnd}
 use Rattle.std.specs.Result.{IsErrAnd, IsOkAnd}
 use Rattle.elf_parts.specs.gnu_symver.Table.{Versions}
 use Rattle.elf.specs.Answers.{symbol_version_table}
-use Rattle.elf.specs.ObjectFile.{ObjectFile}
+use Rattle.elf.specs.ObjectFile.{Extent, FileOf}
 use Rattle.elf_hash_check.specs.Object.{IsSound, Object}
-use Rattle.elf_linking.specs.ObjectTable.{IsFaultOf, object_of}
+use Rattle.elf_linking.specs.ObjectTable.{IsFaultOf, object_fault, object_of}
 use Rattle.elf_linking.specs.declared.resolve.ObjectFault.{ObjectFault}
-use Rattle.elf_linking.specs.declared.resolve.ObjectFault.TheVariants.{Read}
 use Rattle.elf_linking.specs.Binding.{NamedVersion, VersionedObject, version_of, version_view}
 use Rattle.elf_linking.specs.declared.Unreadable.{Unreadable}
 use Rattle.elf_linking.specs.declared.Wanted.{Wanted}
@@ -28,8 +27,10 @@ module _ {C E : Type 0} (view : C → VersionedObject) (object : Option (Result 
       ⊎ (IsSomeAnd object (λ o. IsOkAnd o IsSound) × IsErrAnd versions (λ e. fault ≡ to e))
 
 -- that of the file's hash section, with the versions of its symbols
-abbrev pub GivesVersioned : {C : Type 0} → (C → VersionedObject) → ObjectFile → Result (Option C) ObjectFault → Type 0
-GivesVersioned view file result = GivesObject view (object_of file) (symbol_version_table file) Read result
+abbrev pub GivesVersioned : {C : Type 0} {x : Extent} → (C → VersionedObject) → FileOf x →
+    Result (Option C) ObjectFault → Type 0
+GivesVersioned {x = x} view file result =
+    GivesObject view (object_of file) (symbol_version_table file) (object_fault x) result
 
 -- the version of symbol i, if its file has versions at all
 abbrev pub version_in : Option Versions → ℕ → Result (Option NamedVersion) Unreadable

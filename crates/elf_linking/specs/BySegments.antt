@@ -13,7 +13,7 @@ use Rattle.elf_records.specs.declared.file.Class.{Class}
 use Rattle.elf_parts.specs.GnuFind.{GnuTable}
 use Rattle.elf_parts.specs.gnu_symver.Table.{Versions}
 use Rattle.elf.specs.Headers.{if_found}
-use Rattle.elf.specs.ObjectFile.{ObjectFile, table_of}
+use Rattle.elf.specs.ObjectFile.{Extent, FileOf, table_of}
 use Rattle.elf_dynamic.specs.declared.dynamic_view.error.DynamicError.{DynamicError}
 use Rattle.elf_dynamic.specs.declared.dynamic_view.error.DynamicError.TheVariants.{NotLoaded}
 use Rattle.elf_dynamic.specs.dynamic_view.Entries.{dynamic_table, entries_in, required, value_of}
@@ -26,6 +26,7 @@ use Rattle.elf_dynamic.specs.dynamic_view.Tags.{dt_gnu_hash, dt_hash, dt_symtab,
 use Rattle.elf_dynamic.specs.dynamic_view.Versions.{version_definitions, version_needs}
 use Rattle.elf_hash_check.specs.declared.hashcheck.any.HashKind.{HashKind}
 use Rattle.elf_hash_check.specs.declared.hashcheck.any.HashKind.TheVariants.{Gnu, Sysv}
+use Rattle.elf_linking.specs.ObjectTable.{HashParts}
 use Rattle.elf_linking.specs.SymbolUses.{rel_parts, rela_parts, uses_after}
 use Rattle.elf_linking.specs.declared.bindings.uses.SymbolUses.{SymbolUses}
 
@@ -42,7 +43,7 @@ pub record RelocationLists : Type 0 where
   pub relas : List (ℕ × ℕ)
   pub plt : List (ℕ × ℕ)
 
-abbrev pub relocations : ObjectFile → List Dyn → Result RelocationLists DynamicError
+abbrev pub relocations : {x : Extent} → FileOf x → List Dyn → Result RelocationLists DynamicError
 relocations file entries =
     rels file entries >>= λ r. relas file entries >>= λ a. plt_relocations file entries >>= λ p.
     Ok (record { rels = list_of (option_map Rels r); relas = list_of (option_map Relas a); plt = list_of p })
@@ -61,41 +62,41 @@ count_named r = named_count (named_count (named_count 0 r.rels) r.relas) r.plt
 -- ---- symbols
 
 -- this many symbols at an address; no segment has 2^64 bytes or more
-abbrev pub sized_bytes : ObjectFile → ℕ → ℕ → ℕ → Result (List ℕ) DynamicError
+abbrev pub sized_bytes : {x : Extent} → FileOf x → ℕ → ℕ → ℕ → Result (List ℕ) DynamicError
 sized_bytes file address count size =
     if nat_le (2 ^ 64) (count * size) then Err (NotLoaded address) else bytes_of file address (count * size)
 
-abbrev pub symbols_at : ObjectFile → List Dyn → ℕ → Result Table DynamicError
+abbrev pub symbols_at : {x : Extent} → FileOf x → List Dyn → ℕ → Result Table DynamicError
 symbols_at file entries count =
     required dt_symtab entries >>= λ address.
     ok_map (table_of file) (sized_bytes file address count (size_by symbol_layout file.class))
 
 -- those that were counted, and at least as many as relocations name
-abbrev pub symbols_up_to : ObjectFile → List Dyn → Table → ℕ → Result Table DynamicError
+abbrev pub symbols_up_to : {x : Extent} → FileOf x → List Dyn → Table → ℕ → Result Table DynamicError
 symbols_up_to file entries counted count =
     if nat_le count (table_len symbol_reads counted) then Ok counted else symbols_at file entries count
 
 -- A hash section counts the symbols that it finds. A GNU hash section need not count those before them, which other
 -- files define, and relocations name these.
-abbrev pub symbols : ObjectFile → List Dyn → Result Table DynamicError
+abbrev pub symbols : {x : Extent} → FileOf x → List Dyn → Result Table DynamicError
 symbols file entries =
     counted_symbols file entries >>= λ counted. relocations file entries >>= λ named.
     symbols_up_to file entries counted (count_named named)
 
 -- with the strings that their names lie in
-abbrev pub symbols_with_strings : ObjectFile → List Dyn → Result (Table × List ℕ) DynamicError
+abbrev pub symbols_with_strings : {x : Extent} → FileOf x → List Dyn → Result (Table × List ℕ) DynamicError
 symbols_with_strings file entries =
     symbols file entries >>= λ table. strings file entries >>= λ names. Ok (table, names)
 
 -- ---- their versions: a version index for each symbol, in the bytes up to the last one of the segment
 
-abbrev pub versions_at : ObjectFile → List Dyn → ℕ → Result Versions DynamicError
+abbrev pub versions_at : {x : Extent} → FileOf x → List Dyn → ℕ → Result Versions DynamicError
 versions_at file entries address =
     bytes_from file address >>= λ indexes. version_needs file entries >>= λ needs.
     version_definitions file entries >>= λ definitions.
     Ok (record { indexes = table_of file indexes; needs = needs; definitions = definitions })
 
-abbrev pub versions : ObjectFile → List Dyn → Result (Option Versions) DynamicError
+abbrev pub versions : {x : Extent} → FileOf x → List Dyn → Result (Option Versions) DynamicError
 versions file entries = if_found (versions_at file entries) (value_of dt_versym entries)
 
 -- ---- the hash section: its kind and its bytes, of a SysV section with those after it
@@ -105,22 +106,30 @@ abbrev pub gnu_size : Class → GnuTable → ℕ
 gnu_size class t =
     16 + t.hdr.nbloom * address_size class + 4 * t.hdr.nbucket + length t.chains.bytes
 
-abbrev pub gnu_bytes : ObjectFile → List Dyn → GnuTable → Result (List ℕ) DynamicError
+abbrev pub gnu_bytes : {x : Extent} → FileOf x → List Dyn → GnuTable → Result (List ℕ) DynamicError
 gnu_bytes file entries t =
     required dt_gnu_hash entries >>= λ address. bytes_of file address (gnu_size file.class t)
 
-abbrev pub sysv_at : ObjectFile → ℕ → Result (HashKind × List ℕ) DynamicError
+abbrev pub sysv_at : {x : Extent} → FileOf x → ℕ → Result (HashKind × List ℕ) DynamicError
 sysv_at file address = ok_map (λ bytes. (Sysv, bytes)) (bytes_from file address)
 
 -- the GNU section, or if there is none the SysV section, if there is one
-abbrev pub hash_by : ObjectFile → List Dyn → Option GnuTable → Result (Option (HashKind × List ℕ)) DynamicError
+abbrev pub hash_by : {x : Extent} → FileOf x → List Dyn → Option GnuTable → Result (Option (HashKind × List ℕ)) DynamicError
 hash_by file entries (Some t) = ok_map (λ bytes. Some (Gnu, bytes)) (gnu_bytes file entries t)
 hash_by file entries None = if_found (sysv_at file) (value_of dt_hash entries)
 
-abbrev pub hash_section : ObjectFile → List Dyn → Result (Option (HashKind × List ℕ)) DynamicError
+abbrev pub hash_section : {x : Extent} → FileOf x → List Dyn → Result (Option (HashKind × List ℕ)) DynamicError
 hash_section file entries = gnu_hash file entries >>= hash_by file entries
+
+-- with what it is checked over: the symbols, and the strings that their names lie in
+abbrev pub with_symbols : {x : Extent} → FileOf x → List Dyn → HashKind × List ℕ → Result HashParts DynamicError
+with_symbols file entries section =
+    ok_map (λ symbols. (section.0, (section.1, symbols))) (symbols_with_strings file entries)
+
+abbrev pub hash_parts : {x : Extent} → FileOf x → List Dyn → Result (Option HashParts) DynamicError
+hash_parts file entries = hash_section file entries >>= if_found (with_symbols file entries)
 
 -- ---- of a file, if it has dynamic entries
 
-abbrev pub entries_of : ObjectFile → Result (Option (List Dyn)) DynamicError
+abbrev pub entries_of : {x : Extent} → FileOf x → Result (Option (List Dyn)) DynamicError
 entries_of file = ok_map (option_map entries_in) (dynamic_table file)

@@ -15,6 +15,8 @@ pub mod SymbolUses
 -- what is looked up and bound of a file, by its sections or through its segments
 pub mod BySegments
 pub mod DynamicFile
+-- what look-ups use of a part of a file beside the whole
+pub mod Following
 pub mod SymbolBindings
 pub mod Missing
 pub mod Needed

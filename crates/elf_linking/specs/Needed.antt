@@ -1,7 +1,7 @@
 -- The names by which the dynamic linker finds a file and the libraries that it loads with it (gABI, chapter "Dynamic
 -- Section"; GNU C library), of a whole file or of a part, and what is answered of them over a stream.
 use Rattle.std.specs.Prelude.{◌≡◌, ◌⊎◌, ℕ, ◌==◌, ◌||◌, not, Bool, false, if◌then◌else◌}
-use Rattle.std.specs.Prelude.{bit_and, filter, IsTrue, ℤ, pos, List, [], ◌∷◌, map, unwrap_or}
+use Rattle.std.specs.Prelude.{bit_and, filter, ℤ, pos, List, [], ◌∷◌, map, unwrap_or}
 use Rattle.std.specs.Prelude.{Option, Some, None, Result, Ok, Err, IfSome, ok_or}
 use Rattle.std.specs.List.{find}
 use Rattle.std.specs.Option.{option_map}
@@ -20,6 +20,7 @@ use Rattle.elf_reading.specs.Refusals.{IsRefused, Kind, kind}
 use Rattle.elf.specs.Headers.{if_found}
 use Rattle.elf.specs.ObjectFile.{ErrorOf, Extent, FileOf, Partial, Whole, err_map}
 use Rattle.elf.specs.declared.read_error.ReadError.TheVariants.{Parse, NotLoaded as NotRead}
+use Rattle.elf_dynamic.specs.dynamic_view.Laws.{FollowsBy}
 use Rattle.elf_dynamic.specs.dynamic_view.Entries.{entries_in}
 use Rattle.elf_dynamic.specs.dynamic_view.Segments.{part_of}
 use Rattle.elf_linking.specs.declared.needed.Library.{Library}
@@ -181,8 +182,7 @@ IsAnswered shown answer (Err e) = answer ≡ Err e
 
 -- the result over a part is that of the whole file, or it names a range that is missing
 abbrev pub NamesFollow : {A : Type 0} → (ℕ × ℕ → Bool) → Result A NamesError → Result A NamesError → Type 0
-NamesFollow is_missing whole part =
-    (part ≡ whole) ⊎ ((range : ℕ × ℕ) × IsTrue (is_missing range) × (part ≡ Err (Missing range)))
+NamesFollow is_missing whole part = FollowsBy Missing is_missing whole part
 
 -- ---- over a stream
 

@@ -1,6 +1,6 @@
 -- Where the dynamic linker looks for a library that an object needs (the manual page ld.so(8); gABI, chapter "Dynamic
 -- Linking", sections "Shared Object Dependencies" and "Substitution Sequences").
-use Rattle.std.specs.Prelude.{ℕ, ◌-◌, ◌==◌, ◌&&◌, ◌||◌, zero, suc, nat_le, not, Bool, false, if◌then◌else◌, is_some}
+use Rattle.std.specs.Prelude.{ℕ, ◌-◌, ◌==◌, ◌&&◌, ◌||◌, zero, suc, nat_le, nat_lt, not, Bool, false, if◌then◌else◌, is_some}
 use Rattle.std.specs.Prelude.{List, [], ◌∷◌, ◌++◌, codes, filter, length, map, slice_get, Option, Some, None, unwrap_or}
 use Rattle.std.specs.List.{flat_map, list_any, slice_split, starts_with}
 use Rattle.std.specs.Option.{option_map, option_to_list}
@@ -180,9 +180,15 @@ paths_of name places =
     map (joined_path name) places.folders
     ++ (option_to_list (cached_at places name) ++ map (joined_path name) places.usual)
 
--- a name with a slash is a path; another one is searched for in each place
+-- No file has a path of this many bytes: with the 0 byte that ends it Linux takes no more (PATH_MAX of limits.h).
+abbrev pub path_max : ℕ
+path_max = 4096
+
+-- a name with a slash is a path; another one is searched for in each place, unless no path can have it
 abbrev pub candidates_of : List ℕ → Places → List (List ℕ)
-candidates_of name places = if list_any (λ b. b == 47) name then name ∷ [] else paths_of name places
+candidates_of name places =
+    if list_any (λ b. b == 47) name then name ∷ []
+    else if nat_lt (length name) path_max then paths_of name places else []
 
 abbrev pub candidates : Object → List Object → Others → List ℕ → List (List ℕ)
 candidates object loaders others name =

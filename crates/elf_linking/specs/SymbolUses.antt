@@ -4,18 +4,19 @@ use Rattle.std.specs.Prelude.{List, [], ◌∷◌, length, map, slice_index_or, 
 use Rattle.elf_abi.specs.Values.{sht_dynsym, sht_rel, sht_rela}
 use Rattle.elf_records.specs.Number.{ok_map}
 use Rattle.elf_records.specs.Record.{◌>>=◌}
-use Rattle.elf_records.specs.declared.parse.ParseError.{ParseError}
 use Rattle.elf_records.specs.declared.relocation.Rel.{Rel}
 use Rattle.elf_records.specs.declared.relocation.Rela.{Rela}
 use Rattle.elf_records.specs.declared.section.SectionHeader.{SectionHeader}
 use Rattle.elf.specs.Answers.{section_data_as_relas, section_data_as_rels}
-use Rattle.elf.specs.ObjectFile.{ObjectFile}
+use Rattle.elf.specs.ObjectFile.{ErrorOf, Extent, FileOf, Partial, Whole, err_map}
+use Rattle.elf.specs.declared.read_error.ReadError.TheVariants.{NotLoaded, Parse}
+use Rattle.elf_dynamic.specs.declared.dynamic_view.error.DynamicError.TheVariants.{Missing}
 use Rattle.elf_linking.specs.ReferenceKinds.{reference_kind}
 use Rattle.elf_linking.specs.declared.ReferenceKind.{ReferenceKind}
 use Rattle.elf_linking.specs.declared.ReferenceKind.TheVariants.{Address, Copied, JumpSlot}
 use Rattle.elf_linking.specs.declared.bindings.uses.SymbolUses.{SymbolUses}
 use Rattle.elf_linking.specs.declared.bindings.uses.UsesError.{UsesError}
-use Rattle.elf_linking.specs.declared.bindings.uses.UsesError.TheVariants.{Read, TooLarge}
+use Rattle.elf_linking.specs.declared.bindings.uses.UsesError.TheVariants.{Dynamic, Read, TooLarge}
 
 -- ---- the uses of a symbol
 
@@ -50,16 +51,17 @@ rela_parts r = (r.r_sym, r.r_type)
 
 -- ---- those of a file for this machine
 
-abbrev pub has_type : ℕ → Result SectionHeader ParseError → Bool
+abbrev pub has_type : {E : Type 0} → ℕ → Result SectionHeader E → Bool
 has_type sh_type (Ok s) = s.sh_type == sh_type
 has_type sh_type (Err e) = false
 
 -- a section of relocations, linked to the symbols for dynamic linking
-abbrev pub is_dynamic : ObjectFile → SectionHeader → Bool
+abbrev pub is_dynamic : {x : Extent} → FileOf x → SectionHeader → Bool
 is_dynamic file s =
     (s.sh_type == sht_rel || s.sh_type == sht_rela) && has_type sht_dynsym (file.section_at s.sh_link)
 
-abbrev pub section_uses : ℕ → ObjectFile → SectionHeader → List SymbolUses → Result (List SymbolUses) ParseError
+abbrev pub section_uses : {x : Extent} → ℕ → FileOf x → SectionHeader → List SymbolUses →
+    Result (List SymbolUses) (ErrorOf x)
 section_uses machine file s uses =
     if s.sh_type == sht_rel
     then ok_map (λ rels. uses_after machine uses (map rel_parts rels)) (section_data_as_rels file s)
@@ -67,18 +69,21 @@ section_uses machine file s uses =
     then ok_map (λ relas. uses_after machine uses (map rela_parts relas)) (section_data_as_relas file s)
     else Ok uses
 
-abbrev pub or_read : {A : Type 0} → Result A ParseError → Result A UsesError
-or_read (Ok x) = Ok x
-or_read (Err e) = Err (Read e)
+-- why they cannot be read
+abbrev pub uses_fault : (x : Extent) → ErrorOf x → UsesError
+uses_fault Whole e = Read e
+uses_fault Partial (Parse e) = Read e
+uses_fault Partial (NotLoaded range) = Dynamic (Missing range)
 
 -- of the sections, which may have this many bytes together
-abbrev pub sections_uses : ℕ → ObjectFile → ℕ → List SectionHeader → List SymbolUses → Result (List SymbolUses) UsesError
+abbrev pub sections_uses : {x : Extent} → ℕ → FileOf x → ℕ → List SectionHeader → List SymbolUses →
+    Result (List SymbolUses) UsesError
 sections_uses machine file left [] uses = Ok uses
-sections_uses machine file left (s ∷ sections) uses =
+sections_uses {x} machine file left (s ∷ sections) uses =
     if is_dynamic file s
     then (if nat_lt left s.sh_size then Err TooLarge
-    else or_read (section_uses machine file s uses) >>= sections_uses machine file (left - s.sh_size) sections)
+    else err_map (uses_fault x) (section_uses machine file s uses) >>= sections_uses machine file (left - s.sh_size) sections)
     else sections_uses machine file left sections uses
 
-abbrev pub uses_by : ℕ → ObjectFile → List SymbolUses → Result (List SymbolUses) UsesError
+abbrev pub uses_by : {x : Extent} → ℕ → FileOf x → List SymbolUses → Result (List SymbolUses) UsesError
 uses_by machine file uses = sections_uses machine file file.size file.sections uses

@@ -1,46 +1,38 @@
 //! What the dynamic linker uses of a file, through its segments: the relocations, the symbols with their strings and
 //! their versions, and the hash table.
-ghost use Rattle.std.specs.Prelude.{◌≡◌, ◌^◌, Some, map};
+ghost use Rattle.std.specs.Prelude.{◌≡◌, ◌^◌, map};
 ghost use Rattle.std.specs.Option.{option_map};
 ghost use Rattle.elf.specs.Answers.{relas_left, rels_left, symbols_view};
-ghost use Rattle.elf.specs.ElfBytes.{view};
-ghost use Rattle.elf.specs.ObjectFile.{object_file};
+ghost use Rattle.elf.specs.Parts.{loaded};
 ghost use Rattle.elf_dynamic.specs.dynamic_view.Entries.{entries_in};
 ghost use Rattle.elf_dynamic.specs.dynamic_view.Relocations.{Relas, Rels, plt_left};
-ghost use Rattle.elf_hash_check.specs.CheckedTable.{object_view};
-ghost use Rattle.elf_hash_check.specs.Object.{object_in};
-ghost use Rattle.elf_linking.specs.BindingObjects.{GivesObject};
-ghost use Rattle.elf_linking.specs.BySegments.{count_named, gnu_bytes, gnu_size, hash_by, hash_section, list_of};
+ghost use Rattle.elf_linking.specs.BySegments.{count_named, gnu_bytes, gnu_size, hash_by, hash_parts, hash_section};
+ghost use Rattle.elf_linking.specs.BySegments.{list_of};
 ghost use Rattle.elf_linking.specs.BySegments.{named_count, relocations, sized_bytes, symbols, symbols_at};
 ghost use Rattle.elf_linking.specs.BySegments.{symbols_up_to, symbols_with_strings, sysv_at, uses_by_all};
 ghost use Rattle.elf_linking.specs.BySegments.{versions, versions_at};
-ghost use Rattle.elf_linking.specs.DynamicFile.{object_by, object_if};
-ghost use Rattle.elf_linking.specs.ObjectTable.{GivesTable, or_fault};
 ghost use Rattle.elf_linking.specs.SymbolUses.{rel_parts, rela_parts, uses_after};
-ghost use Rattle.elf_linking.specs.VersionedView.{versioned_view};
-ghost use Rattle.elf_linking.specs.declared.resolve.ObjectFault.TheVariants.{Dynamic as IsDynamic};
-ghost use Rattle.elf_linking.specs.inner.BySegments.{relocations_view, section_view};
+ghost use Rattle.elf_linking.specs.inner.BySegments.{hash_view, relocations_view, section_view};
 ghost use Rattle.elf_parts.specs.GnuFind.{gnu_view};
 ghost use Rattle.elf_parts.specs.gnu_symver.Table.{versions_view};
 ghost use Rattle.elf_records.specs.Number.{ok_map};
-ghost use Rattle.elf_records.specs.StringTable.{strings_view};
 ghost use Rattle.elf_records.specs.Table.{table_view};
 
-use crate::VersionedObject;
 use crate::bindings::uses::{SymbolUses, add_relas, add_rels};
-use crate::resolve::ObjectFault;
+use crate::resolve::HashParts;
+use elf::abi;
 use elf::dynamic::DynamicTable;
 use elf::endian::EndianParse;
 use elf::file::Class;
 use elf::gnu_symver::{SymbolVersionTable, VersionIndexTable};
 use elf::hash::GnuHashTable;
+use elf::reader::Reader;
 use elf::relocation::{RelIterator, RelaIterator};
 use elf::string_table::StringTable;
 use elf::symbol::{Symbol, SymbolTable};
-use elf::{ElfBytes, abi};
 use elf_dynamic::dynamic_view;
 use elf_dynamic::dynamic_view::{DynamicError, PltRelocations, address_size};
-use elf_hash_check::hashcheck::{AnyChecked, Checked, HashKind, check_any};
+use elf_hash_check::hashcheck::HashKind;
 use elf_parts::parse::ParseAt;
 
 // ---- relocations
@@ -74,13 +66,12 @@ fn with_addends<E: EndianParse>(relas: Option<RelaIterator<'_, E>>) -> Option<Pl
 }
 
 // Those of a file.
-#[tactic(auto, using(crate::proofs::BySegments::whole))]
-pub(crate) fn relocations<'f, E: EndianParse>(
-    file: &'f ElfBytes<'_, E>,
+pub(crate) fn relocations<'f, E: EndianParse, R: Reader<E>>(
+    file: &'f R,
     entries: &DynamicTable<'_, E>,
 ) -> Result<RelocationLists<'f, E>, DynamicError>
     ensures { ok_map relocations_view result
-        ≡ relocations (object_file E.little (view file.now)) (entries_in (table_view entries.now)) }
+        ≡ relocations (loaded (R.file file.now) (R.ranges file.now)) (entries_in (table_view entries.now)) }
 {
     let rels = dynamic_view::rels(file, entries)?;
     let relas = dynamic_view::relas(file, entries)?;
@@ -165,15 +156,14 @@ fn count_named<E: EndianParse>(relocations: RelocationLists<'_, E>) -> u64
 // ---- symbols
 
 // The bytes of this many records of a size at an address.
-#[tactic(auto, using(crate::proofs::BySegments::whole))]
-fn sized_bytes<'f, E: EndianParse>(
-    file: &'f ElfBytes<'_, E>,
+fn sized_bytes<'f, E: EndianParse, R: Reader<E>>(
+    file: &'f R,
     address: u64,
     count: u64,
     size: u64,
 ) -> Result<&'f [u8], DynamicError>
     ensures { ok_map (λ bytes. bytes.now) result
-        ≡ sized_bytes (object_file E.little (view file.now)) address count size }
+        ≡ sized_bytes (loaded (R.file file.now) (R.ranges file.now)) address count size }
 {
     match count.checked_mul(size) {
         Some(bytes) => dynamic_view::bytes_of(file, address, bytes),
@@ -182,28 +172,28 @@ fn sized_bytes<'f, E: EndianParse>(
 }
 
 // This many symbols.
-fn symbols_at<'f, E: EndianParse>(
-    file: &'f ElfBytes<'_, E>,
+fn symbols_at<'f, E: EndianParse, R: Reader<E>>(
+    file: &'f R,
     entries: &DynamicTable<'_, E>,
     count: u64,
 ) -> Result<SymbolTable<'f, E>, DynamicError>
     ensures { ok_map table_view result
-        ≡ symbols_at (object_file E.little (view file.now)) (entries_in (table_view entries.now)) count }
+        ≡ symbols_at (loaded (R.file file.now) (R.ranges file.now)) (entries_in (table_view entries.now)) count }
 {
     let address = dynamic_view::required(entries, abi::DT_SYMTAB)?;
-    let size = Symbol::size_for(file.ehdr.class) as u64;
+    let size = Symbol::size_for(file.class()) as u64;
     let bytes = sized_bytes(file, address, count, size)?;
-    Ok(SymbolTable::new(file.ehdr.endianness, file.ehdr.class, bytes))
+    Ok(SymbolTable::new(file.endianness(), file.class(), bytes))
 }
 
 // These symbols, or more if there are more.
-fn symbols_up_to<'f, E: EndianParse>(
-    file: &'f ElfBytes<'_, E>,
+fn symbols_up_to<'f, E: EndianParse, R: Reader<E>>(
+    file: &'f R,
     entries: &DynamicTable<'_, E>,
     counted: SymbolTable<'f, E>,
     count: u64,
 ) -> Result<SymbolTable<'f, E>, DynamicError>
-    ensures { ok_map table_view result ≡ symbols_up_to (object_file E.little (view file.now))
+    ensures { ok_map table_view result ≡ symbols_up_to (loaded (R.file file.now) (R.ranges file.now))
         (entries_in (table_view entries.now)) (table_view counted.entry) count }
 {
     if count <= counted.len() as u64 {
@@ -214,13 +204,12 @@ fn symbols_up_to<'f, E: EndianParse>(
 }
 
 // The symbols of a file.
-#[tactic(auto, using(crate::proofs::BySegments::whole))]
-fn symbols<'f, E: EndianParse>(
-    file: &'f ElfBytes<'_, E>,
+fn symbols<'f, E: EndianParse, R: Reader<E>>(
+    file: &'f R,
     entries: &DynamicTable<'_, E>,
 ) -> Result<SymbolTable<'f, E>, DynamicError>
     ensures { ok_map table_view result
-        ≡ symbols (object_file E.little (view file.now)) (entries_in (table_view entries.now)) }
+        ≡ symbols (loaded (R.file file.now) (R.ranges file.now)) (entries_in (table_view entries.now)) }
 {
     let counted = dynamic_view::symbols(file, entries)?;
     let named = relocations(file, entries)?;
@@ -228,13 +217,12 @@ fn symbols<'f, E: EndianParse>(
 }
 
 // The symbols of a file with the strings that their names lie in.
-#[tactic(auto, using(crate::proofs::BySegments::whole))]
-pub(crate) fn symbols_with_strings<'f, E: EndianParse>(
-    file: &'f ElfBytes<'_, E>,
+pub(crate) fn symbols_with_strings<'f, E: EndianParse, R: Reader<E>>(
+    file: &'f R,
     entries: &DynamicTable<'_, E>,
 ) -> Result<(SymbolTable<'f, E>, StringTable<'f>), DynamicError>
     ensures { ok_map symbols_view result
-        ≡ symbols_with_strings (object_file E.little (view file.now)) (entries_in (table_view entries.now)) }
+        ≡ symbols_with_strings (loaded (R.file file.now) (R.ranges file.now)) (entries_in (table_view entries.now)) }
 {
     let table = symbols(file, entries)?;
     let names = dynamic_view::strings(file, entries)?;
@@ -244,29 +232,28 @@ pub(crate) fn symbols_with_strings<'f, E: EndianParse>(
 // ---- versions
 
 // The versions whose indexes are at an address.
-#[tactic(auto, using(crate::proofs::BySegments::whole))]
-fn versions_at<'f, E: EndianParse>(
-    file: &'f ElfBytes<'_, E>,
+fn versions_at<'f, E: EndianParse, R: Reader<E>>(
+    file: &'f R,
     entries: &DynamicTable<'_, E>,
     address: u64,
 ) -> Result<SymbolVersionTable<'f, E>, DynamicError>
     ensures { ok_map versions_view result
-        ≡ versions_at (object_file E.little (view file.now)) (entries_in (table_view entries.now)) address }
+        ≡ versions_at (loaded (R.file file.now) (R.ranges file.now)) (entries_in (table_view entries.now)) address }
 {
     let bytes = dynamic_view::bytes_from(file, address)?;
     let needs = dynamic_view::version_needs(file, entries)?;
     let definitions = dynamic_view::version_definitions(file, entries)?;
-    let indexes = VersionIndexTable::new(file.ehdr.endianness, file.ehdr.class, bytes);
+    let indexes = VersionIndexTable::new(file.endianness(), file.class(), bytes);
     Ok(SymbolVersionTable::new(indexes, needs, definitions))
 }
 
 // The versions of the symbols, if the file has version indexes.
-fn versions<'f, E: EndianParse>(
-    file: &'f ElfBytes<'_, E>,
+pub(crate) fn versions<'f, E: EndianParse, R: Reader<E>>(
+    file: &'f R,
     entries: &DynamicTable<'_, E>,
 ) -> Result<Option<SymbolVersionTable<'f, E>>, DynamicError>
     ensures { ok_map (option_map versions_view) result
-        ≡ versions (object_file E.little (view file.now)) (entries_in (table_view entries.now)) }
+        ≡ versions (loaded (R.file file.now) (R.ranges file.now)) (entries_in (table_view entries.now)) }
 {
     match dynamic_view::value(entries, abi::DT_VERSYM) {
         Some(address) => versions_at(file, entries, address).map(Some),
@@ -286,41 +273,39 @@ fn gnu_size<E: EndianParse>(class: Class, table: &GnuHashTable<'_, E>) -> u64
 }
 
 // The bytes of the GNU hash section with this table.
-#[tactic(auto, using(crate::proofs::BySegments::whole))]
-fn gnu_bytes<'f, E: EndianParse>(
-    file: &'f ElfBytes<'_, E>,
+fn gnu_bytes<'f, E: EndianParse, R: Reader<E>>(
+    file: &'f R,
     entries: &DynamicTable<'_, E>,
     table: &GnuHashTable<'_, E>,
 ) -> Result<&'f [u8], DynamicError>
-    ensures { ok_map (λ bytes. bytes.now) result ≡ gnu_bytes (object_file E.little (view file.now))
+    ensures { ok_map (λ bytes. bytes.now) result ≡ gnu_bytes (loaded (R.file file.now) (R.ranges file.now))
         (entries_in (table_view entries.now)) (gnu_view table.now) }
 {
     let address = dynamic_view::required(entries, abi::DT_GNU_HASH)?;
-    dynamic_view::bytes_of(file, address, gnu_size(file.ehdr.class, table))
+    dynamic_view::bytes_of(file, address, gnu_size(file.class(), table))
 }
 
 // A hash section, by its kind and its bytes.
 type Section<'f> = (HashKind, &'f [u8]);
 
 // The SysV hash section at an address.
-#[tactic(auto, using(crate::proofs::BySegments::whole))]
-fn sysv_section<'f, E: EndianParse>(
-    file: &'f ElfBytes<'_, E>,
+fn sysv_section<'f, E: EndianParse, R: Reader<E>>(
+    file: &'f R,
     address: u64,
 ) -> Result<Section<'f>, DynamicError>
-    ensures { ok_map section_view result ≡ sysv_at (object_file E.little (view file.now)) address }
+    ensures { ok_map section_view result ≡ sysv_at (loaded (R.file file.now) (R.ranges file.now)) address }
 {
     let bytes = dynamic_view::bytes_from(file, address)?;
     Ok((HashKind::Sysv, bytes))
 }
 
 // The section of a file with this GNU table, or if there is none the SysV section.
-fn hash_by<'f, E: EndianParse>(
-    file: &'f ElfBytes<'_, E>,
+fn hash_by<'f, E: EndianParse, R: Reader<E>>(
+    file: &'f R,
     entries: &DynamicTable<'_, E>,
     gnu: Option<GnuHashTable<'_, E>>,
 ) -> Result<Option<Section<'f>>, DynamicError>
-    ensures { ok_map (option_map section_view) result ≡ hash_by (object_file E.little (view file.now))
+    ensures { ok_map (option_map section_view) result ≡ hash_by (loaded (R.file file.now) (R.ranges file.now))
         (entries_in (table_view entries.now)) (option_map gnu_view gnu.entry) }
 {
     if let Some(table) = gnu {
@@ -334,80 +319,30 @@ fn hash_by<'f, E: EndianParse>(
 }
 
 // The section in which the symbols of a file are looked up, if there is one.
-#[tactic(auto, using(crate::proofs::BySegments::whole))]
-fn hash_section<'f, E: EndianParse>(
-    file: &'f ElfBytes<'_, E>,
+fn hash_section<'f, E: EndianParse, R: Reader<E>>(
+    file: &'f R,
     entries: &DynamicTable<'_, E>,
 ) -> Result<Option<Section<'f>>, DynamicError>
     ensures { ok_map (option_map section_view) result
-        ≡ hash_section (object_file E.little (view file.now)) (entries_in (table_view entries.now)) }
+        ≡ hash_section (loaded (R.file file.now) (R.ranges file.now)) (entries_in (table_view entries.now)) }
 {
     let gnu = dynamic_view::gnu_hash(file, entries)?;
     hash_by(file, entries, gnu)
 }
 
-// ---- the object
-
-// The checked table of a hash section over these symbols.
-fn checked_over<'f, E: EndianParse>(
-    file: &'f ElfBytes<'_, E>,
-    section: Section<'f>,
-    symbols: SymbolTable<'f, E>,
-    strings: StringTable<'f>,
-) -> Result<AnyChecked<'f, E>, ObjectFault>
-    ensures { let whole = object_file E.little (view file.now) in
-        GivesTable object_view (or_fault (object_in section.entry.0 whole.little whole.class section.entry.1.now
-        (table_view symbols.entry) (strings_view strings.entry))) result }
-{
-    let (kind, bytes) = section;
-    let ehdr = &file.ehdr;
-    match check_any(kind, ehdr.endianness, ehdr.class, bytes, symbols, strings)? {
-        Checked::Sound(table) => Ok(table),
-        Checked::Faulty(fault) => Err(ObjectFault::Faulty(fault)),
-    }
-}
-
-// The checked table of a hash section over the symbols of a file.
-fn checked<'f, E: EndianParse>(
-    file: &'f ElfBytes<'_, E>,
+// The section with what it is checked over, if there is one.
+pub(crate) fn hash_parts<'f, E: EndianParse, R: Reader<E>>(
+    file: &'f R,
     entries: &DynamicTable<'_, E>,
-    section: Section<'f>,
-) -> Result<AnyChecked<'f, E>, ObjectFault>
-    ensures { GivesTable object_view (object_by (object_file E.little (view file.now))
-        (entries_in (table_view entries.now)) (section_view section.entry)) result }
-{
-    let (symbols, strings) = symbols_with_strings(file, entries)?;
-    checked_over(file, section, symbols, strings)
-}
-
-// The object by a hash section.
-fn object_by<'f, E: EndianParse>(
-    file: &'f ElfBytes<'_, E>,
-    entries: &DynamicTable<'_, E>,
-    section: Section<'f>,
-) -> Result<Option<VersionedObject<'f, E>>, ObjectFault>
-    ensures { let whole = object_file E.little (view file.now) in
-        let found = entries_in (table_view entries.now) in
-        GivesObject (versioned_view versions_view) (Some (object_by whole found (section_view section.entry)))
-        (versions whole found) IsDynamic result }
-{
-    let table = checked(file, entries, section)?;
-    let versions = versions(file, entries)?;
-    Ok(Some(VersionedObject { table, versions }))
-}
-
-// The object that the file is, if it has a hash section.
-pub(crate) fn object<'f, E: EndianParse>(
-    file: &'f ElfBytes<'_, E>,
-    entries: &DynamicTable<'_, E>,
-) -> Result<Option<VersionedObject<'f, E>>, ObjectFault>
-    ensures { let whole = object_file E.little (view file.now) in
-        let found = entries_in (table_view entries.now) in
-        GivesObject (versioned_view versions_view) (object_if whole found (hash_section whole found))
-        (versions whole found) IsDynamic result }
+) -> Result<Option<HashParts<'f, E>>, DynamicError>
+    ensures { ok_map (option_map hash_view) result
+        ≡ hash_parts (loaded (R.file file.now) (R.ranges file.now)) (entries_in (table_view entries.now)) }
 {
     match hash_section(file, entries)? {
-        Some(section) => object_by(file, entries, section),
+        Some((kind, bytes)) => {
+            let symbols = symbols_with_strings(file, entries)?;
+            Ok(Some((kind, (bytes, symbols))))
+        }
         None => Ok(None),
     }
 }

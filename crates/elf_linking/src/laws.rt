@@ -5,6 +5,7 @@ ghost use Rattle.elf_records.specs.Clones.{ClonesExactly};
 ghost use Rattle.elf.specs.ObjectFile.{ObjectFile};
 ghost use Rattle.elf.specs.Parts.{ArePartOf, Ranges, all_ranges, loaded};
 ghost use Rattle.elf_records.specs.declared.dynamic.Dyn.{Dyn};
+ghost use Rattle.elf_linking.specs.Following.{LinksFollow};
 ghost use Rattle.elf_linking.specs.Needed.{NamesFollow, names, strings_by};
 
 use crate::bindings::Bound;
@@ -32,6 +33,12 @@ pub fn clones()
     ensures name { ClonesExactly ⟦<Name as Clone>⟧.is_clone ⟦<Name as Clone>⟧.is_infallible }
     ensures bound { ClonesExactly ⟦<Bound as Clone>⟧.is_clone ⟦<Bound as Clone>⟧.is_infallible }
     ensures uses { ClonesExactly ⟦<SymbolUses as Clone>⟧.is_clone ⟦<SymbolUses as Clone>⟧.is_infallible }
+{}
+
+/// States that what look-ups use of a partly loaded file is what they use of the whole file, or that a range is missing.
+pub fn part_links_as_whole()
+    ensures { (whole : ObjectFile) (range : Ranges) (is_missing : ℕ × ℕ → Bool) → ArePartOf whole is_missing range
+        → LinksFollow is_missing whole (loaded whole range) }
 {}
 
 /// States that the names of a partly loaded file are those of the whole file, or that a range is

@@ -10,12 +10,13 @@
 //! undefined symbols with values of a program at a fixed address. An object is given by its checked hash table
 //! (`elf_hash_check`), and for `bind` also by the versions of its symbols. These look-ups allocate nothing. `resolver`
 //! makes the tables of a list of files. `dynamic` has what is looked up and bound of a file, whether it declares section
-//! headers or not.
+//! headers or not, and `links` loads that from a source.
 //!
 //! `laws` has theorems for the proofs of callers; `search::worked` and `cache::worked` have definitions at known values.
 #![tactic(auto)]
 
 pub mod bindings;
+mod by_sections;
 mod by_segments;
 pub mod cache;
 mod choice;
@@ -23,6 +24,7 @@ mod definitions;
 pub mod dynamic;
 mod kinds;
 pub mod laws;
+pub mod links;
 pub mod needed;
 mod objects;
 pub mod resolve;

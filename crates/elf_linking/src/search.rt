@@ -520,6 +520,9 @@ fn add_path_if(
     }
 }
 
+/// No file has a path of this many bytes: with the 0 byte that ends it Linux takes no more.
+pub(crate) const PATH_MAX: usize = 4096;
+
 // The paths of a name without a slash.
 fn paths_of(
     alloc: Global,
@@ -537,8 +540,8 @@ fn paths_of(
 
 /// Returns the paths at which the dynamic linker looks for a library that an object needs, in order: the first that can
 /// be opened is the library. `name` is the string of `DT_NEEDED`; with a slash in it, it is the only path. `loaders`
-/// are the object that loaded this one, the one that loaded that one, and so on up to the program. The only error is a
-/// failed allocation.
+/// are the object that loaded this one, the one that loaded that one, and so on up to the program. There are none if the
+/// name is as long as no path can be. The only error is a failed allocation.
 pub fn candidates(
     alloc: Global,
     object: &SearchPaths<'_>,
@@ -555,6 +558,9 @@ pub fn candidates(
         let mut paths = Vec::new(alloc);
         paths.push(name)?;
         return Ok(paths);
+    }
+    if name.len() >= PATH_MAX {
+        return Ok(Vec::new(alloc));
     }
     let places = places(alloc, object, loaders, surroundings)?;
     paths_of(alloc, &name, &places)

@@ -42,7 +42,8 @@ pub mod whole;
 
 use crate::needed::{Name, Names, NamesError, Role, dynamic_names, read_dynamic_names};
 use crate::search::{
-    SearchPaths, SearchPlaces, Substitutions, Surroundings, expansion, joined_path, places,
+    PATH_MAX, SearchPaths, SearchPlaces, Substitutions, Surroundings, expansion, joined_path,
+    places,
 };
 use elf::endian::AnyEndian;
 use elf::file::{Class, FileHeader};
@@ -542,6 +543,9 @@ fn find<O: Opener>(
     if name.contains(&b'/') {
         let path = Vec::from_slice(alloc, name)?;
         return fitting(alloc, opener, kind, path);
+    }
+    if name.len() >= PATH_MAX {
+        return Ok(None);
     }
     first_at(alloc, opener, kind, places, name)
 }

@@ -18,16 +18,15 @@ use Rattle.elf_hash_check.specs.declared.hashcheck.sysv.CheckedSysvHash.{Checked
 use Rattle.elf_linking.specs.Binding.{VersionedObject}
 use Rattle.elf_linking.specs.declared.VersionedObject.{VersionedObject as Versioned}
 use Rattle.elf_records.specs.Table.{Table}
-use Rattle.elf_reading.specs.Opening.{FileView}
 use Rattle.elf_linking.specs.DynamicFile.{GivesDynamic, dynamic_symbols}
 use Rattle.elf_linking.specs.declared.resolve.ObjectFault.{ObjectFault}
 use Rattle.elf_linking.specs.Tree.{Entry, entry_of}
 use Rattle.elf_linking.specs.declared.tree.Object.{Object as LoadedObject}
-use Rattle.nugwier_programs.specs.Bindings.{AreAllFilesSaid, AreFilesSaid, AreSaidFrom, AreSearched, AreSymbolsSaid, IsFileSaid, IsFileSearched, IsSearchedBy, OpenFile, SearchedFile, Searching, Searched, Unsearchable, WithoutSymbols, file_heading, file_uses, files_of, objects_of, open_at, open_files, open_problem, opened_object, paths_of, search_problem, searched_by}
+use Rattle.nugwier_programs.specs.Bindings.{AreAllFilesSaid, AreEach, AreFilesSaid, AreSaidFrom, AreSearched, AreSymbolsSaid, IsFileSaid, IsFileSearched, IsOpening, IsSearchedBy, OpenFile, Opening, SearchedFile, Searching, Searched, Unsearchable, WithoutSymbols, file_heading, file_uses, files_in, files_of, objects_of, open_problem, paths_of, search_problem, searched_by}
+use Rattle.nugwier_programs.specs.Tree.{Known}
 use Rattle.nugwier_report.specs.Said.{Said}
-use Rattle.nugwier_programs.specs.inner.Scope.{AreInScope, Opened, file_view, indexed_view, object_of, open_view, opened_of, paired_object, scope_paths, searched_file, versions_of}
+use Rattle.nugwier_programs.specs.inner.Scope.{AreInScope, Opened, file_view, indexed_view, object_of, opened_of, paired_object, scope_paths, searched_file, versions_of}
 use Rattle.nugwier_programs.specs.declared.bindings.objects.BoundFile.{BoundFile}
-use Rattle.nugwier_programs.specs.declared.bindings.objects.OpenFile.{OpenFile as GivenFile}
 use Rattle.nugwier_programs.proofs.Bound.{get_same, uses_moved}
 
 mapped : {A B : Type 0} (f : A → B) (o : Option A) (b : B) → option_map f o ≡ Some b → (a : A) × (o ≡ Some a) × (f a ≡ b)
@@ -59,38 +58,38 @@ first_and_others (x ∷ xs) first some is =
     let count : length xs ≤ length (x ∷ xs) - 1 = omega arith in
     ap (λ (l : List (Bor LoadedObject)). entry_of first ∷ map entry_of l) (take_all (length (x ∷ xs) - 1) xs count) ∙ ap (λ (o : Bor LoadedObject). entry_of o ∷ map entry_of xs) is
 
--- ---- objects, each searched in its own way
+-- ---- objects, each with what becomes of it
 
--- all objects are searched in these ways if those from place k on are searched in the others
-abbrev pub AreSearchedWith : List OpenFile → ℕ → List Searching → Type 0
-AreSearchedWith objects k so_far = (rest : List Searching) → AreSearched (drop k objects) rest → AreSearched objects (so_far ++ rest)
+module _ {A B : Type 0} (Is : A → B → Type 0) (all : List A) where
+  -- these belong to all if others belong to those from place k on
+  abbrev pub AreEachWith : ℕ → List B → Type 0
+  AreEachWith k so_far = (rest : List B) → AreEach Is (drop k all) rest → AreEach Is all (so_far ++ rest)
 
-pub search_more : (objects : List OpenFile) (k : ℕ) (e : OpenFile) (so_far : List Searching) (one : Searching) → slice_get objects k ≡ Some e → IsFileSearched e one →
-    AreSearchedWith objects k so_far → AreSearchedWith objects (k + 1) (so_far ++ one ∷ [])
-search_more objects k e so_far one at here before rest others =
-    let less = slice_get_within objects k e at in
-    let next = drop_more objects k e less ∙ ap (λ (x : OpenFile). x ∷ drop (k + 1) objects) (get_or_from_slice_get objects k e e at) in
-    subst (λ (l : List Searching). AreSearched objects l) (sym (append_assoc so_far (one ∷ []) rest))
-    (before (one ∷ rest) (subst (λ (l : List OpenFile). AreSearched l (one ∷ rest)) (sym next) (here, others)))
+  each_more : (k : ℕ) (x : A) (so_far : List B) (one : B) → slice_get all k ≡ Some x → Is x one → AreEachWith k so_far → AreEachWith (k + 1) (so_far ++ one ∷ [])
+  each_more k x so_far one at here before rest others =
+      let less = slice_get_within all k x at in
+      let next = drop_more all k x less ∙ ap (λ (y : A). y ∷ drop (k + 1) all) (get_or_from_slice_get all k x x at) in
+      subst (λ (l : List B). AreEach Is all l) (sym (append_assoc so_far (one ∷ []) rest))
+      (before (one ∷ rest) (subst (λ (l : List A). AreEach Is l (one ∷ rest)) (sym next) (here, others)))
 
--- the same of the file at a place
-pub search_next : (files : List GivenFile) (k : ℕ) (d : GivenFile) (so_far : List Searching) (one : Searching) → k < length files → IsFileSearched (open_view (get_or files k d)) one →
-    AreSearchedWith (map open_view files) k so_far → AreSearchedWith (map open_view files) (k + 1) (so_far ++ one ∷ [])
-search_next files k d so_far one less here before =
-    search_more (map open_view files) k (open_view (get_or files k d)) so_far one (slice_get-map open_view files k ∙ ap (option_map open_view) (slice_get-get_or files k d less)) here before
+  pub each_done : (k : ℕ) (so_far : List B) → length all ≤ k → AreEachWith k so_far → AreEach Is all so_far
+  each_done k so_far past before =
+      subst (λ (l : List B). AreEach Is all l) (append-nil so_far)
+      (before [] (subst (λ (l : List A). AreEach Is l []) (sym (drop_all k all past)) tt))
 
-pub search_done : (objects : List OpenFile) (k : ℕ) (so_far : List Searching) → length objects ≤ k → AreSearchedWith objects k so_far → AreSearched objects so_far
-search_done objects k so_far past before =
-    subst (λ (l : List Searching). AreSearched objects l) (append-nil so_far)
-    (before [] (subst (λ (l : List OpenFile). AreSearched l []) (sym (drop_all k objects past)) tt))
+-- the same of what is at a place of a list
+pub each_next : {A B C : Type 0} (Is : A → B → Type 0) (view : C → A) (given : List C) (k : ℕ) (x : C) (so_far : List B) (one : B) → k < length given → x ≡ get_or given k x → Is (view x) one →
+    AreEachWith Is (map view given) k so_far → AreEachWith Is (map view given) (k + 1) (so_far ++ one ∷ [])
+each_next Is view given k x so_far one less is here before =
+    each_more Is (map view given) k (view x) so_far one (slice_get-map view given k ∙ ap (option_map view) (slice_get-get_or given k x less ∙ ap Some (sym is))) here before
 
 -- ---- a file that was opened
 
-pub opened_searched : (path : List ℕ) (v : FileView AnyEndian) (symbols : Table × List ℕ) (object : Result (Option VersionedObject) ObjectFault) →
-    dynamic_symbols (opened_object v) ≡ Ok (Some symbols) → GivesDynamic (λ (o : VersionedObject). o) (opened_object v) object →
-    IsFileSearched (open_at path v) (searched_by path v symbols object)
-opened_searched path v symbols object named gives =
-    subst (λ (r : Result (Option (Table × List ℕ)) ObjectFault). IsSearchedBy path v r (searched_by path v symbols object)) (sym named) (object, gives, refl)
+pub opened_searched : (file : OpenFile) (symbols : Table × List ℕ) (object : Result (Option VersionedObject) ObjectFault) →
+    dynamic_symbols file.file ≡ Ok (Some symbols) → GivesDynamic (λ (o : VersionedObject). o) file.file object →
+    IsFileSearched file (searched_by file symbols object)
+opened_searched file symbols object named gives =
+    subst (λ (r : Result (Option (Table × List ℕ)) ObjectFault). IsSearchedBy file r (searched_by file symbols object)) (sym named) (object, gives, refl)
 
 -- ---- the files of a scope
 
@@ -102,16 +101,16 @@ pub said_done : (all : List SearchedFile) (k : ℕ) (so_far : List Said) → len
 said_done all k so_far past before =
     subst (AreAllFilesSaid all) (append-nil so_far) (before [] (subst (λ (l : List SearchedFile). AreFilesSaid all k l []) (sym (drop_all k all past)) refl))
 
-paths_there : (files : List BoundFile) → map (λ (o : Opened). o.path) (map file_view files) ≡ scope_paths files
+paths_there : (files : List BoundFile) → map (λ (o : Opened). o.opened.path) (map file_view files) ≡ scope_paths files
 paths_there [] = refl
 paths_there (file ∷ files) = ap (λ (l : List (List ℕ)). file.path.now ∷ l) (paths_there files)
 
-paths_of_all : (all : List SearchedFile) → map (λ (o : Opened). o.path) (map opened_of all) ≡ paths_of all
+paths_of_all : (all : List SearchedFile) → map (λ (o : Opened). o.opened.path) (map opened_of all) ≡ paths_of all
 paths_of_all [] = refl
-paths_of_all (file ∷ all) = ap (λ (l : List (List ℕ)). file.path ∷ l) (paths_of_all all)
+paths_of_all (file ∷ all) = ap (λ (l : List (List ℕ)). file.opened.path ∷ l) (paths_of_all all)
 
 paths_same : (all : List SearchedFile) (files : List BoundFile) → map file_view files ≡ map opened_of all → scope_paths files ≡ paths_of all
-paths_same all files same = sym (paths_there files) ∙ ap (map (λ (o : Opened). o.path)) same ∙ paths_of_all all
+paths_same all files same = sym (paths_there files) ∙ ap (map (λ (o : Opened). o.opened.path)) same ∙ paths_of_all all
 
 -- what is at a place of a scope
 file_at : (all : List SearchedFile) (files : List BoundFile) → map file_view files ≡ map opened_of all → (k : ℕ) (file : BoundFile) → slice_get files k ≡ Some file →
@@ -145,7 +144,7 @@ module _ {order : EndianGhosts AnyEndian} {default : DefaultGhosts AnyEndian} {e
     abbrev pub IsSaidAt : BoundFile → ℕ → List Said → Type 0
     IsSaidAt file k said =
         let opened = file_view file in
-        AreSymbolsSaid indexed_view objects (scope_paths files) (map indexed_view objects) opened.path opened.symbols (versions_of (option_map indexed_view (slice_get objects k)))
+        AreSymbolsSaid indexed_view objects (scope_paths files) (map indexed_view objects) opened.opened.path opened.symbols (versions_of (option_map indexed_view (slice_get objects k)))
         (file_uses opened.opened opened.symbols.0) said
 
     said_at : (s : SearchedFile) (file : BoundFile) (k : ℕ) (said : List Said) → slice_get all k ≡ Some s → opened_of s ≡ file_view file → IsSaidAt file k said → IsFileSaid all s said
@@ -154,14 +153,14 @@ module _ {order : EndianGhosts AnyEndian} {default : DefaultGhosts AnyEndian} {e
         let read = file_uses opened.opened opened.symbols.0 in
         let versions : versions_of (option_map indexed_view (slice_get objects k)) ≡ s.object.versions =
         ap versions_of (get_same indexed_view object_of objects all scope.1 k ∙ ap (option_map object_of) at) in
-        let moved = uses_moved indexed_view object_of objects all scope.1 (scope_paths files) (map indexed_view objects) opened.path opened.symbols
+        let moved = uses_moved indexed_view object_of objects all scope.1 (scope_paths files) (map indexed_view objects) opened.opened.path opened.symbols
         (versions_of (option_map indexed_view (slice_get objects k))) read said here in
-        let by_paths = subst (λ (paths : List (List ℕ)). AreSymbolsSaid object_of all paths (map indexed_view objects) opened.path opened.symbols (versions_of (option_map indexed_view (slice_get objects k))) read said)
+        let by_paths = subst (λ (paths : List (List ℕ)). AreSymbolsSaid object_of all paths (map indexed_view objects) opened.opened.path opened.symbols (versions_of (option_map indexed_view (slice_get objects k))) read said)
         (paths_same all files scope.0) moved in
-        let by_objects = subst (λ (l : List VersionedObject). AreSymbolsSaid object_of all (paths_of all) l opened.path opened.symbols (versions_of (option_map indexed_view (slice_get objects k))) read said)
+        let by_objects = subst (λ (l : List VersionedObject). AreSymbolsSaid object_of all (paths_of all) l opened.opened.path opened.symbols (versions_of (option_map indexed_view (slice_get objects k))) read said)
         scope.1 by_paths in
-        let named = subst (λ (v : Option Versions). AreSymbolsSaid object_of all (paths_of all) (objects_of all) opened.path opened.symbols v read said) versions by_objects in
-        subst (λ (o : Opened). AreSymbolsSaid object_of all (paths_of all) (objects_of all) o.path o.symbols s.object.versions (file_uses o.opened o.symbols.0) said) (sym same) named
+        let named = subst (λ (v : Option Versions). AreSymbolsSaid object_of all (paths_of all) (objects_of all) opened.opened.path opened.symbols v read said) versions by_objects in
+        subst (λ (o : Opened). AreSymbolsSaid object_of all (paths_of all) (objects_of all) o.opened.path o.symbols s.object.versions (file_uses o.opened o.symbols.0) said) (sym same) named
 
     pub said_more : (k : ℕ) (file : BoundFile) (so_far one : List Said) → slice_get files k ≡ Some file → IsSaidAt file k one → AreSaidWith all k so_far →
         AreSaidWith all (k + 1) (so_far ++ (file_heading k file.path.now ++ one))
@@ -170,7 +169,7 @@ module _ {order : EndianGhosts AnyEndian} {default : DefaultGhosts AnyEndian} {e
         let s = found.0 in
         let less = slice_get_within all k s found.1 in
         let next = drop_more all k s less ∙ ap (λ (x : SearchedFile). x ∷ drop (k + 1) all) (get_or_from_slice_get all k s s found.1) in
-        let path : s.path ≡ file.path.now = ap (λ (o : Opened). o.path) found.2 in
+        let path : s.opened.path ≡ file.path.now = ap (λ (o : Opened). o.opened.path) found.2 in
         let these = (file_heading k file.path.now ++ one) ++ others in
         subst (AreAllFilesSaid all) (sym (append_assoc so_far (file_heading k file.path.now ++ one) others))
         (before these (subst (λ (l : List SearchedFile). AreFilesSaid all k l these) (sym next)
@@ -211,19 +210,20 @@ module _ {order : EndianGhosts AnyEndian} {default : DefaultGhosts AnyEndian} {e
 
   -- ---- the program and its libraries
 
-  -- if nothing was found, the program is not searched
-  pub not_searched : (one : Searching) (found : List (WithTable order default equal)) (libraries : List Entry) → map searched_file found ≡ files_of one → length found ≡ 0 → AreSaidFrom one libraries []
-  not_searched (Searched f) [] libraries is none = absurd (cc)
-  not_searched (Searched f) (p ∷ found) libraries is none = absurd (cc)
-  not_searched WithoutSymbols found libraries is none = refl
-  not_searched (Unsearchable fault) found libraries is none = refl
+  module _ (known : Known) where
+    -- if nothing was found, the program is not searched
+    pub not_searched : (one : Searching) (found : List (WithTable order default equal)) (libraries : List Entry) → map searched_file found ≡ files_of one → length found ≡ 0 → AreSaidFrom known one libraries []
+    not_searched (Searched f) [] libraries is none = absurd (cc)
+    not_searched (Searched f) (p ∷ found) libraries is none = absurd (cc)
+    not_searched WithoutSymbols found libraries is none = refl
+    not_searched (Unsearchable fault) found libraries is none = refl
 
-  -- else it is, and the files are those of the program and of the libraries
-  pub then_said : (one : Searching) (found : List (WithTable order default equal)) (libraries : List Entry) (others : List Searching) (said : List Said) →
-      map searched_file found ≡ files_of one → 0 < length found → AreSearched (flat_map open_files libraries) others →
-      AreAllFilesSaid (files_of one ++ flat_map files_of others) said → AreSaidFrom one libraries (flat_map open_problem libraries ++ (flat_map search_problem others ++ said))
-  then_said (Searched f) found libraries others said is some searched all = (others, searched, said, all, refl)
-  then_said WithoutSymbols [] libraries others said is some searched all = absurd (omega (arith, some))
-  then_said WithoutSymbols (p ∷ found) libraries others said is some searched all = absurd (cc)
-  then_said (Unsearchable fault) [] libraries others said is some searched all = absurd (omega (arith, some))
-  then_said (Unsearchable fault) (p ∷ found) libraries others said is some searched all = absurd (cc)
+    -- else it is, and the files are those of the program and of the libraries
+    pub then_said : (one : Searching) (found : List (WithTable order default equal)) (libraries : List Entry) (openings : List Opening) (others : List Searching) (said : List Said) →
+        map searched_file found ≡ files_of one → 0 < length found → AreEach (IsOpening known) libraries openings → AreSearched (flat_map files_in openings) others →
+        AreAllFilesSaid (files_of one ++ flat_map files_of others) said → AreSaidFrom known one libraries (flat_map open_problem openings ++ (flat_map search_problem others ++ said))
+    then_said (Searched f) found libraries openings others said is some each searched all = (openings, each, others, searched, said, all, refl)
+    then_said WithoutSymbols [] libraries openings others said is some each searched all = absurd (omega (arith, some))
+    then_said WithoutSymbols (p ∷ found) libraries openings others said is some each searched all = absurd (cc)
+    then_said (Unsearchable fault) [] libraries openings others said is some each searched all = absurd (omega (arith, some))
+    then_said (Unsearchable fault) (p ∷ found) libraries openings others said is some each searched all = absurd (cc)

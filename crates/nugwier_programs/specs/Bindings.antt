@@ -2,11 +2,9 @@
 -- not known. Symbols are looked up in the objects in the order of loading, but in the filtees of an object before the
 -- object itself (gABI, chapter "Dynamic Linking", sections "Shared Object Dependencies" and "Hash Table"; GNU C library).
 use Rattle.std.specs.Prelude.{◌≡◌, ℕ, ◌+◌, ◌==◌, if◌then◌else◌, List, [], ◌∷◌, ◌++◌, codes, filter}
-use Rattle.std.specs.Prelude.{map, replicate, Option, Some, None, Result, Ok, Err}
+use Rattle.std.specs.Prelude.{map, replicate, Option, Some, None, Result, Ok, Err, IfSome}
 use Rattle.std.specs.List.{enumerate_from, flat_map, zip}
-use Rattle.std.specs.Option.{option_to_list}
-use Rattle.std.specs.Result.{result_ok}
-use Rattle.elf_records.specs.Number.{ok_map}
+use Rattle.std.specs.Option.{option_map, option_to_list}
 use Rattle.elf_records.specs.Endian.{any_is_little, any_of_byte}
 use Rattle.elf_records.specs.Symbol.{symbol_reads}
 use Rattle.elf_records.specs.Table.{Table, table_items, table_len}
@@ -14,10 +12,12 @@ use Rattle.elf_records.specs.declared.endian.AnyEndian.{AnyEndian}
 use Rattle.elf_records.specs.declared.parse.ParseError.{ParseError}
 use Rattle.elf_records.specs.declared.symbol.Symbol.{Symbol}
 use Rattle.elf_parts.specs.gnu_symver.Table.{Versions}
-use Rattle.elf_reading.specs.Opening.{FileView, opened_file}
-use Rattle.elf.specs.ObjectFile.{ObjectFile, object_file}
+use Rattle.elf_reading.specs.Opening.{FileView, headers_of, opened_file}
+use Rattle.elf.specs.ObjectFile.{FileOf, Partial}
+use Rattle.elf.specs.StreamFile.{listed_file}
 use Rattle.elf_linking.specs.Binding.{VersionedObject}
 use Rattle.elf_linking.specs.DynamicFile.{GivesDynamic, dynamic_symbols, dynamic_uses}
+use Rattle.elf_linking.specs.Following.{SameLinks}
 use Rattle.elf_linking.specs.declared.resolve.ObjectFault.{ObjectFault}
 use Rattle.elf_linking.specs.declared.resolve.ObjectFault.TheVariants.{Read as IsRead}
 use Rattle.elf_linking.specs.SymbolBindings.{AreAllBound, is_bound}
@@ -29,50 +29,93 @@ use Rattle.elf_linking.specs.declared.bindings.uses.UsesError.{UsesError}
 use Rattle.nugwier_report.specs.Said.{Said, states, text, whole, wrong}
 use Rattle.nugwier_report.specs.declared.kind.Kind.TheVariants.{FileHeading, NextFileHeading}
 use Rattle.nugwier_report.specs.declared.problem.Fault.{Fault}
-use Rattle.nugwier_report.specs.declared.problem.Fault.TheVariants.{NoHash, Object, Read, Relocations}
+use Rattle.nugwier_report.specs.declared.problem.Fault.TheVariants.{NoHash, Object, Read, Relocations, Unread}
 use Rattle.nugwier_report.specs.declared.problem.Part.TheVariants.{File}
+use Rattle.nugwier_files.specs.Folder.{KnownFiles}
 use Rattle.nugwier_programs.specs.Symbols.{symbols_said}
-use Rattle.nugwier_programs.specs.Tree.{AreObjects, Known, Order, Search, object_problems}
+use Rattle.nugwier_programs.specs.Tree.{AreNamedObjects, Known, Order, Search, object_problems}
 
--- ---- what is searched
+-- ---- what is opened: of a program by its bytes, of a library by what is at its path
 
--- a file that was opened
+-- what is loaded of a file
 pub record OpenFile : Type 0 where
   pub path : List ℕ
-  pub opened : FileView AnyEndian
+  pub machine : ℕ
+  pub file : FileOf Partial
 
-abbrev pub opened_object : FileView AnyEndian → ObjectFile
-opened_object v = object_file any_is_little v
+-- a part of the opened file that has all that look-ups use of it: its symbols for dynamic linking, its hash section,
+-- their versions, and its relocations
+abbrev pub IsPartOf : FileView AnyEndian → OpenFile → Type 0
+IsPartOf v o =
+    (o.machine ≡ v.ehdr.e_machine) × SameLinks (listed_file any_is_little (headers_of v) v.bytes) o.file
 
-abbrev pub open_at : List ℕ → FileView AnyEndian → OpenFile
-open_at path v = record { path = path; opened = v }
+-- what becomes of the file of an object: a missing library has none, it can no longer be read, it is no ELF file, or it
+-- is loaded
+pub data Opening : Type 0 where
+  NoFile : Opening
+  Gone : List ℕ → Opening
+  Refused : List ℕ → ParseError → Opening
+  Loaded : OpenFile → Opening
 
--- the file of an object, if it can be opened; a missing library has none
-abbrev pub open_of : Option Found → Option OpenFile
-open_of (Some found) =
-    result_ok (ok_map (open_at found.path) (opened_file any_is_little any_of_byte found.bytes))
-open_of None = None
+abbrev pub has_path : List ℕ → Opening → Type 0
+has_path path NoFile = ⊥
+has_path path (Gone own) = own ≡ path
+has_path path (Refused own e) = own ≡ path
+has_path path (Loaded file) = file.path ≡ path
 
-abbrev pub open_files : Entry → List OpenFile
-open_files e = option_to_list (open_of e.file)
+-- by what its bytes are
+abbrev pub IsOpeningBy : Result (FileView AnyEndian) ParseError → Opening → Type 0
+IsOpeningBy (Ok v) opening = (file : OpenFile) × IsPartOf v file × (opening ≡ Loaded file)
+IsOpeningBy (Err e) opening = (path : List ℕ) × (opening ≡ Refused path e)
+
+-- by its content, if there is one
+abbrev pub IsOpeningOf : Option (List ℕ) → Opening → Type 0
+IsOpeningOf (Some bytes) opening = IsOpeningBy (opened_file any_is_little any_of_byte bytes) opening
+IsOpeningOf None opening = (path : List ℕ) × (opening ≡ Gone path)
+
+-- the content of a file, if it is known: these bytes, or if none were kept what is at its path
+abbrev pub content_of : Known → List ℕ → List ℕ → Option (Option (List ℕ))
+content_of known path [] = option_map (λ (files : KnownFiles). files.contents path) known
+content_of known path (b ∷ bytes) = Some (Some (b ∷ bytes))
+
+abbrev pub IsOpeningIf : Known → Option Found → Opening → Type 0
+IsOpeningIf known None opening = opening ≡ NoFile
+IsOpeningIf known (Some found) opening =
+    has_path found.path opening
+    × IfSome (content_of known found.path found.bytes) (λ content. IsOpeningOf content opening)
+
+abbrev pub IsOpening : Known → Entry → Opening → Type 0
+IsOpening known e opening = IsOpeningIf known e.file opening
+
+-- each of these is one of those
+abbrev pub AreEach : {A B : Type 0} → (A → B → Type 0) → List A → List B → Type 0
+AreEach Is [] [] = Unit {0}
+AreEach Is [] (y ∷ ys) = ⊥
+AreEach Is (x ∷ xs) [] = ⊥
+AreEach Is (x ∷ xs) (y ∷ ys) = Is x y × AreEach Is xs ys
+
+abbrev pub file_in : Opening → Option OpenFile
+file_in (Loaded file) = Some file
+file_in NoFile = None
+file_in (Gone path) = None
+file_in (Refused path e) = None
+
+abbrev pub files_in : Opening → List OpenFile
+files_in opening = option_to_list (file_in opening)
 
 -- that it cannot be opened
-abbrev pub opening_problem : List ℕ → Result (FileView AnyEndian) ParseError → List Said
-opening_problem path (Ok v) = []
-opening_problem path (Err e) = wrong (whole File) (Object path (IsRead e)) ∷ []
+abbrev pub open_problem : Opening → List Said
+open_problem NoFile = []
+open_problem (Gone path) = wrong (whole File) (Unread path) ∷ []
+open_problem (Refused path e) = wrong (whole File) (Object path (IsRead e)) ∷ []
+open_problem (Loaded file) = []
 
-abbrev pub file_problem : Option Found → List Said
-file_problem (Some found) = opening_problem found.path (opened_file any_is_little any_of_byte found.bytes)
-file_problem None = []
-
-abbrev pub open_problem : Entry → List Said
-open_problem e = file_problem e.file
+-- ---- what is searched
 
 -- a file that look-ups search: its path, its symbols for dynamic linking with their names, and its hash table with
 -- their versions
 pub record SearchedFile : Type 0 where
-  pub path : List ℕ
-  pub opened : FileView AnyEndian
+  pub opened : OpenFile
   pub symbols : Table × List ℕ
   pub object : VersionedObject
 
@@ -83,31 +126,25 @@ pub data Searching : Type 0 where
   Unsearchable : Fault → Searching
 
 -- a file with symbols is searched through its hash section, which has to be sound
-abbrev pub searched_by : List ℕ → FileView AnyEndian → Table × List ℕ → Result (Option VersionedObject) ObjectFault →
-    Searching
-searched_by path v symbols (Ok (Some object)) =
-    Searched (record { path = path; opened = v; symbols = symbols; object = object })
-searched_by path v symbols (Ok None) = Unsearchable (NoHash path)
-searched_by path v symbols (Err fault) = Unsearchable (Object path fault)
+abbrev pub searched_by : OpenFile → Table × List ℕ → Result (Option VersionedObject) ObjectFault → Searching
+searched_by file symbols (Ok (Some object)) =
+    Searched (record { opened = file; symbols = symbols; object = object })
+searched_by file symbols (Ok None) = Unsearchable (NoHash file.path)
+searched_by file symbols (Err fault) = Unsearchable (Object file.path fault)
 
-abbrev pub IsSearchedBy : List ℕ → FileView AnyEndian → Result (Option (Table × List ℕ)) ObjectFault → Searching →
-    Type 0
-IsSearchedBy path v (Ok (Some symbols)) searching =
+abbrev pub IsSearchedBy : OpenFile → Result (Option (Table × List ℕ)) ObjectFault → Searching → Type 0
+IsSearchedBy file (Ok (Some symbols)) searching =
     (object : Result (Option VersionedObject) ObjectFault)
-    × GivesDynamic (λ (o : VersionedObject). o) (opened_object v) object
-    × (searching ≡ searched_by path v symbols object)
-IsSearchedBy path v (Ok None) searching = searching ≡ WithoutSymbols
-IsSearchedBy path v (Err fault) searching = searching ≡ Unsearchable (Object path fault)
+    × GivesDynamic (λ (o : VersionedObject). o) file.file object
+    × (searching ≡ searched_by file symbols object)
+IsSearchedBy file (Ok None) searching = searching ≡ WithoutSymbols
+IsSearchedBy file (Err fault) searching = searching ≡ Unsearchable (Object file.path fault)
 
 abbrev pub IsFileSearched : OpenFile → Searching → Type 0
-IsFileSearched file searching =
-    IsSearchedBy file.path file.opened (dynamic_symbols (opened_object file.opened)) searching
+IsFileSearched file searching = IsSearchedBy file (dynamic_symbols file.file) searching
 
 abbrev pub AreSearched : List OpenFile → List Searching → Type 0
-AreSearched [] [] = Unit {0}
-AreSearched [] (searching ∷ others) = ⊥
-AreSearched (file ∷ files) [] = ⊥
-AreSearched (file ∷ files) (searching ∷ others) = IsFileSearched file searching × AreSearched files others
+AreSearched files searching = AreEach IsFileSearched files searching
 
 abbrev pub files_of : Searching → List SearchedFile
 files_of (Searched file) = file ∷ []
@@ -122,9 +159,8 @@ search_problem (Unsearchable fault) = wrong (whole File) fault ∷ []
 -- ---- what is said of the symbols of a file
 
 -- how the relocations of the file use its symbols
-abbrev pub file_uses : FileView AnyEndian → Table → Result (List SymbolUses) UsesError
-file_uses v symbols =
-    dynamic_uses v.ehdr.e_machine (opened_object v) (replicate (table_len symbol_reads symbols) no_uses)
+abbrev pub file_uses : OpenFile → Table → Result (List SymbolUses) UsesError
+file_uses o symbols = dynamic_uses o.machine o.file (replicate (table_len symbol_reads symbols) no_uses)
 
 abbrev pub uses_problem : List ℕ → Result (List SymbolUses) UsesError → List Said
 uses_problem path (Ok uses) = []
@@ -154,7 +190,7 @@ module _ {C : Type 0} (view : C → VersionedObject) (scope : List C) (paths : L
 -- ---- all files
 
 abbrev pub paths_of : List SearchedFile → List (List ℕ)
-paths_of scope = map (λ (file : SearchedFile). file.path) scope
+paths_of scope = map (λ (file : SearchedFile). file.opened.path) scope
 
 abbrev pub objects_of : List SearchedFile → List VersionedObject
 objects_of scope = map (λ (file : SearchedFile). file.object) scope
@@ -167,7 +203,7 @@ file_heading place path =
 module _ (scope : List SearchedFile) where
   abbrev pub IsFileSaid : SearchedFile → List Said → Type 0
   IsFileSaid file said =
-      AreSymbolsSaid (λ (s : SearchedFile). s.object) scope (paths_of scope) (objects_of scope) file.path file.symbols
+      AreSymbolsSaid (λ (s : SearchedFile). s.object) scope (paths_of scope) (objects_of scope) file.opened.path file.symbols
       file.object.versions (file_uses file.opened file.symbols.0) said
 
   -- of the files from a place on
@@ -176,7 +212,7 @@ module _ (scope : List SearchedFile) where
   AreFilesSaid place (file ∷ files) said =
       (first : List Said) × IsFileSaid file first
       × (others : List Said) × AreFilesSaid (place + 1) files others
-      × (said ≡ file_heading place file.path ++ first ++ others)
+      × (said ≡ file_heading place file.opened.path ++ first ++ others)
 
 -- each object that is searched, in the scope of all of them
 abbrev pub AreAllFilesSaid : List SearchedFile → List Said → Type 0
@@ -184,33 +220,35 @@ AreAllFilesSaid scope said = AreFilesSaid scope 0 scope said
 
 -- with the libraries of a program that is searched. Of one that has no symbols for dynamic linking, or cannot be
 -- searched, nothing is said
-abbrev pub AreSaidFrom : Searching → List Entry → List Said → Type 0
-AreSaidFrom (Searched program) libraries said =
-    (others : List Searching) × AreSearched (flat_map open_files libraries) others
+abbrev pub AreSaidFrom : Known → Searching → List Entry → List Said → Type 0
+AreSaidFrom known (Searched program) libraries said =
+    (openings : List Opening) × AreEach (IsOpening known) libraries openings
+    × (others : List Searching) × AreSearched (flat_map files_in openings) others
     × (files : List Said) × AreAllFilesSaid (program ∷ flat_map files_of others) files
-    × (said ≡ flat_map open_problem libraries ++ (flat_map search_problem others ++ files))
-AreSaidFrom WithoutSymbols libraries said = said ≡ []
-AreSaidFrom (Unsearchable fault) libraries said = said ≡ []
+    × (said ≡ flat_map open_problem openings ++ (flat_map search_problem others ++ files))
+AreSaidFrom known WithoutSymbols libraries said = said ≡ []
+AreSaidFrom known (Unsearchable fault) libraries said = said ≡ []
 
 -- the same of a program that was opened
-abbrev pub IsProgramSaid : Option OpenFile → List Entry → List Said → Type 0
-IsProgramSaid (Some program) libraries said =
+abbrev pub IsProgramSaid : Known → Option OpenFile → List Entry → List Said → Type 0
+IsProgramSaid known (Some program) libraries said =
     (first : Searching) × IsFileSearched program first
-    × (others : List Said) × AreSaidFrom first libraries others × (said ≡ search_problem first ++ others)
-IsProgramSaid None libraries said = said ≡ []
+    × (others : List Said) × AreSaidFrom known first libraries others × (said ≡ search_problem first ++ others)
+IsProgramSaid known None libraries said = said ≡ []
 
 -- a program and its libraries, in the order of look-ups: which cannot be opened or searched, and what is said of the others
-abbrev pub AreObjectsSaid : List Entry → List Said → Type 0
-AreObjectsSaid [] said = said ≡ []
-AreObjectsSaid (program ∷ libraries) said =
-    (others : List Said) × IsProgramSaid (open_of program.file) libraries others
-    × (said ≡ open_problem program ++ others)
+abbrev pub AreObjectsSaid : Known → List Entry → List Said → Type 0
+AreObjectsSaid known [] said = said ≡ []
+AreObjectsSaid known (program ∷ libraries) said =
+    (opening : Opening) × IsOpening known program opening
+    × (others : List Said) × IsProgramSaid known (file_in opening) libraries others
+    × (said ≡ open_problem opening ++ others)
 
 -- of a file: that it is no program, or which libraries are missing or have names that are not known, and what the
 -- symbols bind to
 abbrev pub IsBindingsSaid : Known → Search → Result Found ParseError → List Said → Type 0
 IsBindingsSaid known search (Ok program) said =
-    (order : Order) × AreObjects known search program order
-    × (symbols : List Said) × AreObjectsSaid (in_order order.0 order.1) symbols
+    (order : Order) × AreNamedObjects known search program order
+    × (symbols : List Said) × AreObjectsSaid known (in_order order.0 order.1) symbols
     × (said ≡ object_problems order.0 ++ symbols)
 IsBindingsSaid known search (Err e) said = said ≡ wrong (whole File) (Read e) ∷ []

@@ -13,7 +13,6 @@ use Rattle.elf_linking.specs.Cache.{Cache, cache_of, cached_path, flags_of}
 use Rattle.elf_linking.specs.Search.{Others}
 use Rattle.elf_linking.specs.Needed.{Named}
 use Rattle.elf_linking.specs.Tree.{Entry, Found, IsLoadOrder, entry_view, found_view, loader_at, opened_names}
-use Rattle.elf_linking.specs.Tree.{opened_whole}
 use Rattle.elf_linking.specs.Tree.{without_bytes}
 use Rattle.elf_linking.specs.declared.needed.NamesError.{NamesError}
 use Rattle.elf_linking.specs.declared.tree.Kind.{Kind}
@@ -103,10 +102,7 @@ AreOpenedIn opened files search program order =
 abbrev pub AreOpened : Opened → Known → Search → Found → Order → Type 0
 AreOpened opened known search program order = IfSome known (λ files. AreOpenedIn opened files search program order)
 
--- with all bytes, or by their names alone
-abbrev pub AreObjects : Known → Search → Found → Order → Type 0
-AreObjects known search program order = AreOpened opened_whole known search program order
-
+-- by their names alone
 abbrev pub AreNamedObjects : Known → Search → Found → Order → Type 0
 AreNamedObjects known search program order = AreOpened opened_names known search program order
 

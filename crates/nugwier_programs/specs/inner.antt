@@ -4,3 +4,5 @@ pub mod Walk
 pub mod Scope
 -- paths, and a set of the same
 pub mod Paths
+-- what is loaded of a file
+pub mod Opening

@@ -9,6 +9,7 @@ ghost use Rattle.nugwier_programs.specs.Tree.{search_view};
 ghost use Rattle.nugwier_report.specs.Said.{Said, saying};
 
 mod objects;
+mod opening;
 mod rows;
 mod targets;
 
@@ -17,7 +18,7 @@ use crate::bindings::objects::{
 };
 use crate::bindings::rows::say_file;
 use crate::bindings::targets::Scope;
-use crate::tree::{Search, objects, open_program, say_problems};
+use crate::tree::{Search, named_objects, open_program, say_problems};
 use elf_linking::tree::{Object, in_order};
 use nugwier_files::files::Files;
 use nugwier_report::problem::Stop;
@@ -43,10 +44,10 @@ pub fn say_bindings<F: Files, W: Write, V: Write>(
     let Some(program) = open_program(alloc, path, data, report)? else {
         return Ok(());
     };
-    let order = objects(alloc, search, files, program)?;
+    let order = named_objects(alloc, search, files, program)?;
     say_problems(&order.objects, report)?;
     let objects = in_order(alloc, &order)?;
-    say_objects(alloc, &objects, report)?;
+    say_objects(alloc, files, &objects, report)?;
     Ok(())
 }
 
@@ -56,48 +57,52 @@ pub fn say_bindings<F: Files, W: Write, V: Write>(
 // A library that cannot be searched counts as one that defines nothing. If the program is such an object, nothing else
 // is said.
 #[tactic(auto, using(crate::proofs::Walk::saying_nothing))]
-fn say_objects<W: Write, V: Write>(
+fn say_objects<F: Files, W: Write, V: Write>(
     alloc: Global,
+    files: &F,
     objects: &[&Object],
     report: &mut Report<'_, W, V>,
 ) -> Result<(), Stop>
-    ensures { OnOk result ((said : List Said) × AreObjectsSaid (map entry_of objects.now) said
+    ensures { OnOk result ((said : List Said)
+        × AreObjectsSaid (F.known files.now) (map entry_of objects.now) said
         × (report.new ≡ saying report.old said)) }
 {
     let [program, libraries @ ..] = objects else {
         return Ok(());
     };
-    say_program(alloc, program, libraries, report)?;
+    say_program(alloc, files, program, libraries, report)?;
     Ok(())
 }
 
 // Says it of a program and of its libraries.
-fn say_program<W: Write, V: Write>(
+fn say_program<F: Files, W: Write, V: Write>(
     alloc: Global,
+    files: &F,
     program: &Object,
     libraries: &[&Object],
     report: &mut Report<'_, W, V>,
 ) -> Result<(), Stop>
     ensures { OnOk result ((said : List Said)
-        × AreObjectsSaid (entry_view program.now ∷ map entry_of libraries.now) said
+        × AreObjectsSaid (F.known files.now) (entry_view program.now ∷ map entry_of libraries.now) said
         × (report.new ≡ saying report.old said)) }
 {
-    let Some(program) = open_file(program, report)? else {
+    let Some(program) = open_file(alloc, files, program, report)? else {
         return Ok(());
     };
-    say_opened(alloc, &program, libraries, report)?;
+    say_opened(alloc, files, &program, libraries, report)?;
     Ok(())
 }
 
 // Says it of a program that was opened.
-fn say_opened<W: Write, V: Write>(
+fn say_opened<F: Files, W: Write, V: Write>(
     alloc: Global,
+    files: &F,
     program: &OpenFile<'_>,
     libraries: &[&Object],
     report: &mut Report<'_, W, V>,
 ) -> Result<(), Stop>
     ensures { OnOk result ((said : List Said)
-        × IsProgramSaid (Some (open_view program.now)) (map entry_of libraries.now) said
+        × IsProgramSaid (F.known files.now) (Some (open_view program.now)) (map entry_of libraries.now) said
         × (report.new ≡ saying report.old said)) }
 {
     let mut found = Vec::new(alloc);
@@ -105,7 +110,7 @@ fn say_opened<W: Write, V: Write>(
     if found.is_empty() {
         return Ok(());
     }
-    let opened = open_files(alloc, libraries, report)?;
+    let opened = open_files(alloc, files, libraries, report)?;
     say_with(alloc, found, opened.as_slice(), report)?;
     Ok(())
 }

@@ -6,7 +6,7 @@ ghost use Rattle.std.specs.Vec.{vec_items};
 ghost use Rattle.std.specs.declared.option.Option.{Option};
 ghost use Rattle.elf_linking.specs.Cache.{cache_view};
 ghost use Rattle.elf_linking.specs.Tree.{Entry, Found, entry_view, file_of, found_view, loader_at};
-ghost use Rattle.nugwier_programs.specs.Tree.{AreNamedObjects, AreObjects, AreOpened, IsNamedSaid, IsProgram, IsTreeSaid};
+ghost use Rattle.nugwier_programs.specs.Tree.{AreNamedObjects, AreOpened, IsNamedSaid, IsProgram, IsTreeSaid};
 ghost use Rattle.nugwier_programs.specs.Tree.{after_it, at_depth, cache_file, cache_in, entry_said, search_view};
 ghost use Rattle.nugwier_programs.specs.Tree.{first_needed};
 ghost use Rattle.nugwier_programs.specs.Tree.{is_needed_by, library_path, listed, listed_said, names_problem};
@@ -22,7 +22,6 @@ use crate::usual::{lib_of, platform_of, usual_folders};
 use elf::endian::AnyEndian;
 use elf_linking::cache::{LibraryFlags, LinkerCache};
 use elf_linking::search::Surroundings;
-use elf_linking::tree::whole::WholeLibraries;
 use elf_linking::tree::{
     LoadOrder, LoadedFile, Object, OpenError, Opener, load_order, loader_at, object_at,
 };
@@ -111,23 +110,8 @@ pub const FILE: Place = Place {
 // The path of the linker's cache of libraries.
 const CACHE: &[u8] = b"/etc/ld.so.cache";
 
-/// Returns the program with its libraries, with all their bytes.
-pub(crate) fn objects<F: Files>(
-    alloc: Global,
-    search: Search<'_>,
-    files: &F,
-    program: LoadedFile,
-) -> Result<LoadOrder, AllocError>
-    ensures { IfOk result (λ order. AreObjects (F.known files.now) (search_view search.entry) (found_view program)
-        (order_view order)) }
-{
-    files.has_libraries();
-    let opener = WholeLibraries { libraries: files };
-    opened_objects(alloc, search, files, &opener, program)
-}
-
-// The same by their names alone.
-fn named_objects<F: Files>(
+/// Returns the program with its libraries, by their names alone.
+pub(crate) fn named_objects<F: Files>(
     alloc: Global,
     search: Search<'_>,
     files: &F,

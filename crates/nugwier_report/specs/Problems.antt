@@ -122,6 +122,8 @@ fault_text (fault.NotFound name path) =
     quoted name ++? words (codes ", which ") ++? quoted path ++? words (codes " needs, is not found")
 fault_text (fault.Names path e) = words (codes "names of ") ++? quoted path ++? words (codes ": ") ++? names_text e
 fault_text (fault.Object path f) = words (codes "symbols of ") ++? quoted path ++? words (codes ": ") ++? object_text f
+fault_text (fault.Unread path) =
+    words (codes "symbols of ") ++? quoted path ++? words (codes ": the file can no longer be read")
 fault_text (fault.NoHash path) = words (codes "symbols of ") ++? quoted path ++? words (codes ": no hash section")
 fault_text (fault.Relocations path e) =
     words (codes "relocations of ") ++? quoted path ++? words (codes ": ") ++? uses_text e

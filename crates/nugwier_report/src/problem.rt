@@ -167,6 +167,8 @@ pub enum Fault<'a> {
     NotFound(Quoted<'a>, Quoted<'a>),
     /// The names of the object at this path are not available.
     Names(Quoted<'a>, NamesFault<'a>),
+    /// The object at this path was found, and then it could not be read.
+    Unread(Quoted<'a>),
     /// Symbols cannot be looked up in the object at this path.
     Object(Quoted<'a>, ObjectFault),
     /// The object at this path has symbols and no hash section, so these cannot be looked up.
@@ -215,6 +217,7 @@ impl fmt::Display for Fault<'_> {
             Fault::Lacks(requirement) => f.write_str(requirement.lack()),
             Fault::NotFound(name, path) => write!(f, "{name}, which {path} needs, is not found"),
             Fault::Names(path, error) => write!(f, "names of {path}: {error}"),
+            Fault::Unread(path) => write!(f, "symbols of {path}: the file can no longer be read"),
             Fault::Object(path, fault) => write!(f, "symbols of {path}: {}", ObjectText(fault)),
             Fault::NoHash(path) => write!(f, "symbols of {path}: no hash section"),
             Fault::Relocations(path, error) => {

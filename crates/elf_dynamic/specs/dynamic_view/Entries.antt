@@ -1,11 +1,10 @@
 -- The dynamic entries of a file, by its segment of type PT_DYNAMIC, and their values by tag (gABI, chapter "Dynamic
 -- Section").
-use Rattle.std.specs.Prelude.{◌≡◌, ℕ, ◌==◌, Bool, not, ℤ, List, [], filter, map, if◌then◌else◌, Option, Some, None}
+use Rattle.std.specs.Prelude.{◌≡◌, ℕ, ◌==◌, not, ℤ, List, [], filter, map, if◌then◌else◌, Option, None}
 use Rattle.std.specs.Prelude.{Result, Ok, Err, ok_or}
 use Rattle.std.specs.List.{last_or, take_while}
 use Rattle.elf_abi.specs.Values.{dt_null, pt_dynamic}
 use Rattle.elf_records.specs.Dynamic.{d_un_view, dyn_reads, has_tag}
-use Rattle.elf_records.specs.Number.{ok_map}
 use Rattle.elf_records.specs.Record.{◌>>=◌}
 use Rattle.elf_records.specs.Table.{Table, items_left, table_items}
 use Rattle.elf_records.specs.declared.dynamic.Dyn.{Dyn}

@@ -18,10 +18,13 @@ use Rattle.elf_dynamic.specs.dynamic_view.Versions.{version_definitions, version
 
 -- ---- a part
 
--- the result over a part is that of the whole file, or it names a range that is missing
+-- the result over a part is that of the whole file, or the error by which a range is missing
+abbrev pub FollowsBy : {A E : Type 0} → (ℕ × ℕ → E) → (ℕ × ℕ → Bool) → Result A E → Result A E → Type 0
+FollowsBy missing is_missing whole part =
+    (part ≡ whole) ⊎ ((range : ℕ × ℕ) × IsTrue (is_missing range) × (part ≡ Err (missing range)))
+
 abbrev pub ViewFollows : {A : Type 0} → (ℕ × ℕ → Bool) → Result A DynamicError → Result A DynamicError → Type 0
-ViewFollows is_missing whole part =
-    (part ≡ whole) ⊎ ((range : ℕ × ℕ) × IsTrue (is_missing range) × (part ≡ Err (Missing range)))
+ViewFollows is_missing whole part = FollowsBy Missing is_missing whole part
 
 -- so is each result
 pub record FollowsWhole (is_missing : ℕ × ℕ → Bool) (whole : ObjectFile) (part : FileOf Partial) : Type 0 where

@@ -1,5 +1,5 @@
 -- The relocations (gABI, chapter "Dynamic Section").
-use Rattle.std.specs.Prelude.{ℕ, ℤ, pos, Bool, if◌then◌else◌, List, Option, Result, Ok, Err}
+use Rattle.std.specs.Prelude.{ℕ, ℤ, pos, Bool, if◌then◌else◌, List, Option, Result, Err}
 use Rattle.std.specs.Option.{option_map}
 use Rattle.std.specs.Ordering.{int_eq}
 use Rattle.elf_records.specs.Class.{address_size}

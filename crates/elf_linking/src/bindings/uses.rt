@@ -1,19 +1,19 @@
 //! How the relocations of a file refer to its symbols.
 ghost use Rattle.std.specs.Prelude.{◌≡◌, map};
 ghost use Rattle.elf.specs.Answers.{relas_left, rels_left};
-ghost use Rattle.elf.specs.ElfBytes.{view};
-ghost use Rattle.elf.specs.ObjectFile.{object_file};
+ghost use Rattle.elf.specs.ObjectFile.{Partial};
+ghost use Rattle.elf.specs.Parts.{loaded};
 ghost use Rattle.elf_records.specs.Number.{ok_map};
 ghost use Rattle.elf_linking.specs.SymbolUses.{is_dynamic, rel_parts, rela_parts, section_uses, use_added, uses_after};
-ghost use Rattle.elf_linking.specs.SymbolUses.{uses_at, uses_by, with_use};
-ghost use Rattle.elf_linking.specs.declared.bindings.uses.UsesError.TheVariants.{Dynamic as IsDynamic, Read as IsRead};
+ghost use Rattle.elf_linking.specs.SymbolUses.{uses_at, uses_by, uses_fault, with_use};
+ghost use Rattle.elf_linking.specs.declared.bindings.uses.UsesError.TheVariants.{Dynamic as IsDynamic};
 
 use crate::{ReferenceKind, reference_kind};
 use elf::endian::EndianParse;
-use elf::headers::Headers;
+use elf::reader::{Reader, section_data_as_relas, section_data_as_rels};
 use elf::relocation::{RelIterator, RelaIterator};
 use elf::section::SectionHeader;
-use elf::{ElfBytes, ParseError, abi};
+use elf::{ParseError, ReadError, abi};
 use elf_dynamic::dynamic_view::DynamicError;
 use thiserror::Error;
 
@@ -41,7 +41,8 @@ pub enum UsesError {
     /// The sections of relocations are together larger than the file.
     #[error("the sections of relocations are larger than the file")]
     TooLarge,
-    /// The file declares no section headers, and its relocations are not available through its segments.
+    /// The relocations are not available: of a file that declares no section headers through its segments, or since a
+    /// range is not loaded (`DynamicError::Missing`).
     #[error("{0}")]
     Dynamic(DynamicError),
 }
@@ -54,11 +55,14 @@ impl From<DynamicError> for UsesError {
     }
 }
 
-impl From<ParseError> for UsesError {
-    ghost from_gives = { λ error fault. fault ≡ IsRead error };
+impl From<ReadError> for UsesError {
+    ghost from_gives = { λ error fault. fault ≡ uses_fault Partial error };
 
-    fn from(error: ParseError) -> UsesError {
-        UsesError::Read(error)
+    fn from(error: ReadError) -> UsesError {
+        match error {
+            ReadError::Parse(error) => UsesError::Read(error),
+            ReadError::NotLoaded(range) => UsesError::Dynamic(DynamicError::Missing(range)),
+        }
     }
 }
 
@@ -137,28 +141,28 @@ pub(crate) fn add_relas<E: EndianParse>(
 }
 
 // Adds the uses of the relocations of a section, if it has any.
-fn add_section<E: EndianParse>(
-    file: &ElfBytes<'_, E>,
+fn add_section<E: EndianParse, R: Reader<E>>(
+    machine: u16,
+    file: &R,
     section: &SectionHeader,
     uses: &mut [SymbolUses],
-) -> Result<(), ParseError>
+) -> Result<(), ReadError>
     ensures { ok_map (λ _. uses.new) result
-        ≡ section_uses file.now.ehdr.e_machine (object_file E.little (view file.now)) section.now uses.old }
+        ≡ section_uses machine (loaded (R.file file.now) (R.ranges file.now)) section.now uses.old }
 {
-    let machine = file.ehdr.e_machine;
     if section.sh_type == abi::SHT_REL {
-        let rels = file.section_data_as_rels(section)?;
+        let rels = section_data_as_rels(file, section)?;
         add_rels(machine, rels, uses);
     } else if section.sh_type == abi::SHT_RELA {
-        let relas = file.section_data_as_relas(section)?;
+        let relas = section_data_as_relas(file, section)?;
         add_relas(machine, relas, uses);
     }
     Ok(())
 }
 
 // Whether the section has relocations of symbols for dynamic linking.
-fn is_dynamic<E: EndianParse>(file: &ElfBytes<'_, E>, section: &SectionHeader) -> bool
-    ensures { result ≡ is_dynamic (object_file E.little (view file.now)) section.now }
+pub(crate) fn is_dynamic<E: EndianParse, R: Reader<E>>(file: &R, section: &SectionHeader) -> bool
+    ensures { result ≡ is_dynamic (loaded (R.file file.now) (R.ranges file.now)) section.now }
 {
     if section.sh_type != abi::SHT_REL && section.sh_type != abi::SHT_RELA {
         return false;
@@ -175,24 +179,22 @@ fn is_dynamic<E: EndianParse>(file: &ElfBytes<'_, E>, section: &SectionHeader) -
 /// Errors, of the first such section with one, in order: `TooLarge` if its size and those of the ones before it are
 /// together larger than the file; `Read` with that of `section_data_as_rels` or `section_data_as_relas`. So the time is
 /// that of one walk over the sections and the bytes of the file.
-pub fn add_uses<E: EndianParse>(
-    file: &ElfBytes<'_, E>,
+pub fn add_uses<E: EndianParse, R: Reader<E>>(
+    machine: u16,
+    file: &R,
     uses: &mut [SymbolUses],
 ) -> Result<(), UsesError>
     ensures { ok_map (λ _. uses.new) result
-        ≡ uses_by file.now.ehdr.e_machine (object_file E.little (view file.now)) uses.old }
+        ≡ uses_by machine (loaded (R.file file.now) (R.ranges file.now)) uses.old }
 {
-    let Some(sections) = file.section_headers() else {
-        return Ok(());
-    };
-    let mut left = file.data().len() as u64;
-    for section in sections {
+    let mut left = file.size();
+    for section in file.each_section() {
         if is_dynamic(file, &section) {
             if section.sh_size > left {
                 return Err(UsesError::TooLarge);
             }
             left -= section.sh_size;
-            add_section(file, &section, uses)?;
+            add_section(machine, file, &section, uses)?;
         }
     }
     Ok(())

@@ -1,15 +1,19 @@
 //! The checked hash table of a file, and the look-up of a name over such tables.
 ghost use Rattle.std.specs.Prelude.{◌≡◌};
 ghost use Rattle.elf_records.specs.Number.{ok_map};
-ghost use Rattle.elf.specs.ObjectFile.{object_file};
+ghost use Rattle.elf.specs.ObjectFile.{Whole, object_file};
 ghost use Rattle.elf.specs.ElfBytes.{view};
 ghost use Rattle.elf_hash_check.specs.CheckedTable.{object_view};
-ghost use Rattle.elf_linking.specs.ObjectTable.{GivesObjectTable, GivesTable, object_of, parts_view, section_object};
+ghost use Rattle.elf_hash_check.specs.Object.{object_in};
+ghost use Rattle.elf_records.specs.StringTable.{strings_view};
+ghost use Rattle.elf_records.specs.Table.{table_view};
+ghost use Rattle.elf_linking.specs.ObjectTable.{GivesObjectTable, GivesTable, object_of, parts_view, or_fault, section_object};
 ghost use Rattle.elf_linking.specs.ObjectTable.{section_parts};
 ghost use Rattle.elf_linking.specs.Resolve.{IsResolved};
 
 use crate::resolve::ObjectFault;
 use elf::endian::EndianParse;
+use elf::file::Class;
 use elf::headers::Headers;
 use elf::section::SectionHeader;
 use elf::string_table::StringTable;
@@ -17,8 +21,11 @@ use elf::symbol::{Symbol, SymbolTable};
 use elf::{ElfBytes, abi};
 use elf_hash_check::hashcheck::{AnyChecked, Checked, HashKind, check_any};
 
-// The bytes of a section, and the dynamic symbols with their strings.
-type SectionParts<'data, E> = (&'data [u8], (SymbolTable<'data, E>, StringTable<'data>));
+/// The bytes of a section, and the dynamic symbols with their strings.
+pub(crate) type SectionParts<'data, E> = (&'data [u8], (SymbolTable<'data, E>, StringTable<'data>));
+
+/// A hash section by its kind, with what it is checked with.
+pub(crate) type HashParts<'data, E> = (HashKind, SectionParts<'data, E>);
 
 // What a section is checked with.
 fn section_parts<'data, E: EndianParse>(
@@ -31,6 +38,24 @@ fn section_parts<'data, E: EndianParse>(
     match file.dynamic_symbol_table()? {
         Some(symbols) => Ok((bytes, symbols)),
         None => Err(ObjectFault::NoSymbols),
+    }
+}
+
+/// Returns the checked table of a hash section of this kind, by its bytes, over these symbols.
+pub(crate) fn checked_in<'data, E: EndianParse>(
+    kind: HashKind,
+    endian: E,
+    class: Class,
+    bytes: &'data [u8],
+    symbols: SymbolTable<'data, E>,
+    strings: StringTable<'data>,
+) -> Result<AnyChecked<'data, E>, ObjectFault>
+    ensures { GivesTable object_view (or_fault Whole (object_in kind (E.little endian) class bytes.now
+        (table_view symbols.entry) (strings_view strings.entry))) result }
+{
+    match check_any(kind, endian, class, bytes, symbols, strings)? {
+        Checked::Sound(table) => Ok(table),
+        Checked::Faulty(fault) => Err(ObjectFault::Faulty(fault)),
     }
 }
 
@@ -49,10 +74,7 @@ pub fn section_table<'data, E: EndianParse>(
 {
     let (bytes, (symbols, strings)) = section_parts(file, section)?;
     let ehdr = &file.ehdr;
-    match check_any(kind, ehdr.endianness, ehdr.class, bytes, symbols, strings)? {
-        Checked::Sound(table) => Ok(table),
-        Checked::Faulty(fault) => Err(ObjectFault::Faulty(fault)),
-    }
+    checked_in(kind, ehdr.endianness, ehdr.class, bytes, symbols, strings)
 }
 
 /// Returns the checked hash table of a file over its dynamic symbols: that of the first section of type

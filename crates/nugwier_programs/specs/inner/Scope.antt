@@ -7,8 +7,9 @@ use Rattle.elf_records.specs.Table.{Table, table_view}
 use Rattle.elf_records.specs.declared.endian.AnyEndian.{AnyEndian}
 use Rattle.elf_records.specs.declared.endian.EndianParse.{Ghosts as EndianGhosts}
 use Rattle.elf_parts.specs.gnu_symver.Table.{Versions, versions_view}
-use Rattle.elf_reading.specs.Opening.{FileView}
-use Rattle.elf.specs.ElfBytes.{view}
+use Rattle.elf_records.specs.Endian.{any_is_little}
+use Rattle.elf.specs.ElfStream.{StreamView}
+use Rattle.elf_linking.specs.Missing.{loaded_part}
 use Rattle.elf_hash_check.specs.CheckedTable.{object_view}
 use Rattle.elf_hash_check.specs.declared.hashcheck.any.HashSection.{HashSection}
 use Rattle.elf_hash_check.specs.declared.hashcheck.gnu.CheckedGnuHash.{CheckedGnuHash}
@@ -24,27 +25,29 @@ use Rattle.nugwier_programs.specs.declared.bindings.objects.SearchFault.TheVaria
 use Rattle.nugwier_report.specs.declared.problem.Fault.{Fault}
 use Rattle.nugwier_report.specs.declared.problem.Fault.TheVariants.{NoHash, Object}
 
+-- what is loaded of the file at a path
+abbrev pub open_at : List ℕ → StreamView AnyEndian → OpenFile
+open_at path s =
+    record { path = path; machine = s.headers.ehdr.e_machine; file = loaded_part any_is_little s }
+
 abbrev pub open_view : GivenFile → OpenFile
-open_view file = record { path = file.path.now; opened = view file.file }
+open_view file = open_at file.path.now file.file
 
 -- a file without its hash table
 pub record Opened : Type 0 where
-  pub path : List ℕ
-  pub opened : FileView AnyEndian
+  pub opened : OpenFile
   pub symbols : Table × List ℕ
   pub versions : Option Versions
 
 abbrev pub file_view : BoundFile → Opened
 file_view file = record {
-  path = file.path.now;
-  opened = view file.file.now;
+  opened = open_at file.path.now file.file.now;
   symbols = (table_view file.symbols, file.strings);
   versions = option_map versions_view file.versions;
 }
 
 abbrev pub opened_of : SearchedFile → Opened
 opened_of file = record {
-  path = file.path;
   opened = file.opened;
   symbols = file.symbols;
   versions = file.object.versions;
@@ -74,13 +77,12 @@ module _ {order : EndianGhosts AnyEndian} {default : DefaultGhosts AnyEndian} {e
       × HashSection (CheckedSysvHash AnyEndian order default equal) (CheckedGnuHash AnyEndian order default equal)
       → SearchedFile
   searched_file pair = record {
-    path = pair.0.path.now;
-    opened = view pair.0.file.now;
+    opened = open_at pair.0.path.now pair.0.file.now;
     symbols = (table_view pair.0.symbols, pair.0.strings);
     object = paired_object pair;
   }
 
-  -- what was opened of the file at a path
+  -- how look-ups take the file at a path
   abbrev pub searching_of : List ℕ → Result (Option (BoundFile
       × HashSection (CheckedSysvHash AnyEndian order default equal) (CheckedGnuHash AnyEndian order default equal)))
       SearchFault → Searching

@@ -2,17 +2,16 @@
 ghost use Rattle.std.specs.Prelude.{◌≡◌, ◌++◌, IfOk, List, OnOk, map};
 ghost use Rattle.std.specs.List.{flat_map, zip};
 ghost use Rattle.std.specs.Option.{option_map};
-ghost use Rattle.elf.specs.ElfBytes.{view};
 ghost use Rattle.elf_linking.specs.Tree.{entry_of, entry_view};
-ghost use Rattle.nugwier_programs.specs.Bindings.{AreSearched, IsFileSearched, Searching, files_of};
-ghost use Rattle.nugwier_programs.specs.Bindings.{open_files, open_of, open_problem, opened_object, search_problem};
+ghost use Rattle.nugwier_programs.specs.Bindings.{AreEach, AreSearched, IsFileSearched, IsOpening, Opening, Searching};
+ghost use Rattle.nugwier_programs.specs.Bindings.{file_in, files_in, files_of, open_problem, search_problem};
 ghost use Rattle.nugwier_programs.specs.inner.Scope.{indexed_view, open_view, paired_object, search_fault};
 ghost use Rattle.nugwier_programs.specs.inner.Scope.{searched_file, searching_of};
 ghost use Rattle.nugwier_programs.specs.declared.bindings.objects.SearchFault.TheVariants.{Object as IsObject};
 ghost use Rattle.nugwier_report.specs.Said.{saying};
 
+use crate::bindings::opening::{Linked, load_object};
 use crate::tree::FILE;
-use elf::ElfBytes;
 use elf::endian::AnyEndian;
 use elf::gnu_symver::SymbolVersionTable;
 use elf::string_table::TerminatedStrings;
@@ -23,24 +22,25 @@ use elf_linking::bindings::{IndexedObject, with_index};
 use elf_linking::dynamic::{dynamic_object, dynamic_symbols};
 use elf_linking::resolve::ObjectFault;
 use elf_linking::tree::Object;
+use nugwier_files::files::Files;
 use nugwier_report::problem::{Fault, Stop};
 use nugwier_report::quoted::Quoted;
 use nugwier_report::report::Report;
 use std::alloc::{AllocError, Global};
 use std::io::Write;
 
-/// A file that was opened.
+/// A file that was opened, with what is loaded of it.
 #[derive(Drop)]
 pub(crate) struct OpenFile<'a> {
     pub path: &'a [u8],
-    pub file: ElfBytes<'a, AnyEndian>,
+    pub file: Linked,
 }
 
 /// A file whose symbols are bound.
 #[derive(Drop)]
 pub(crate) struct BoundFile<'a> {
     pub path: &'a [u8],
-    pub file: &'a ElfBytes<'a, AnyEndian>,
+    pub file: &'a Linked,
     pub symbols: SymbolTable<'a, AnyEndian>,
     pub strings: TerminatedStrings<'a>,
     pub versions: Option<SymbolVersionTable<'a, AnyEndian>>,
@@ -67,61 +67,69 @@ impl From<ObjectFault> for SearchFault {
 
 /// Opens the file of an object, or says that it cannot be read. A missing library has none.
 #[tactic(auto, using(crate::proofs::Walk::saying_nothing))]
-pub(crate) fn open_file<'a, W: Write, V: Write>(
+pub(crate) fn open_file<'a, F: Files, W: Write, V: Write>(
+    alloc: Global,
+    files: &F,
     object: &'a Object,
     report: &mut Report<'_, W, V>,
 ) -> Result<Option<OpenFile<'a>>, Stop>
-    ensures file { IfOk result (λ file. option_map open_view file ≡ open_of (entry_view object.now).file) }
-    ensures said { OnOk result (report.new ≡ saying report.old (open_problem (entry_view object.now))) }
+    ensures { IfOk result (λ file. (opening : Opening) × IsOpening (F.known files.now) (entry_view object.now) opening
+        × (option_map open_view file ≡ file_in opening)
+        × (report.new ≡ saying report.old (open_problem opening))) }
 {
     let Some(loaded) = &object.file else {
         return Ok(None);
     };
-    match ElfBytes::minimal_parse(&loaded.bytes) {
-        Ok(file) => {
-            let path = loaded.path.as_slice();
-            Ok(Some(OpenFile { path, file }))
+    let path = loaded.path.as_slice();
+    match load_object(alloc, files, loaded)? {
+        Some(Ok(file)) => Ok(Some(OpenFile { path, file })),
+        Some(Err(error)) => {
+            let fault = ObjectFault::Read(error);
+            report.problem(FILE, Fault::Object(Quoted::new(path), fault))?;
+            Ok(None)
         }
-        Err(error) => {
-            let path = Quoted::new(&loaded.path);
-            report.problem(FILE, Fault::Object(path, ObjectFault::Read(error)))?;
+        None => {
+            report.problem(FILE, Fault::Unread(Quoted::new(path)))?;
             Ok(None)
         }
     }
 }
 
 // Adds the file of an object, if it can be opened.
-fn add_open<'a, W: Write, V: Write>(
+fn add_open<'a, F: Files, W: Write, V: Write>(
+    alloc: Global,
+    files: &F,
     object: &'a Object,
-    files: &mut Vec<OpenFile<'a>>,
+    opened: &mut Vec<OpenFile<'a>>,
     report: &mut Report<'_, W, V>,
 ) -> Result<(), Stop>
-    ensures files { OnOk result (map open_view files.new.items
-        ≡ map open_view files.old.items ++ open_files (entry_view object.now)) }
-    ensures said { OnOk result (report.new ≡ saying report.old (open_problem (entry_view object.now))) }
+    ensures { OnOk result ((opening : Opening) × IsOpening (F.known files.now) (entry_view object.now) opening
+        × (map open_view opened.new.items ≡ map open_view opened.old.items ++ files_in opening)
+        × (report.new ≡ saying report.old (open_problem opening))) }
 {
-    if let Some(file) = open_file(object, report)? {
-        files.push(file)?;
+    if let Some(file) = open_file(alloc, files, object, report)? {
+        opened.push(file)?;
     }
     Ok(())
 }
 
 /// Opens the files of these objects, and says which cannot be read.
-pub(crate) fn open_files<'a, W: Write, V: Write>(
+pub(crate) fn open_files<'a, F: Files, W: Write, V: Write>(
     alloc: Global,
+    files: &F,
     objects: &[&'a Object],
     report: &mut Report<'_, W, V>,
 ) -> Result<Vec<OpenFile<'a>>, Stop>
-    ensures files { IfOk result (λ files.
-        map open_view files.items ≡ flat_map open_files (map entry_of objects.now)) }
-    ensures said { OnOk result (report.new
-        ≡ saying report.old (flat_map open_problem (map entry_of objects.now))) }
+    ensures { IfOk result (λ opened. (openings : List Opening)
+        × AreEach (IsOpening (F.known files.now)) (map entry_of objects.now) openings
+        × (map open_view opened.items ≡ flat_map files_in openings)
+        × (report.new ≡ saying report.old (flat_map open_problem openings))) }
 {
-    let mut files = Vec::new(alloc);
+    let mut opened = Vec::new(alloc);
     for object in objects {
-        add_open(object, &mut files, report)?;
+        add_open(alloc, files, object, &mut opened, report)?;
     }
-    Ok(files)
+    Ok(opened)
 }
 
 // Finds what look-ups search of a file. Returns `None` if it has no symbols for dynamic linking.

@@ -2,9 +2,6 @@
 ghost use Rattle.std.specs.Prelude.{◌≡◌, ◌++◌, IfOk, List, OnOk, map, replicate, slice_get};
 ghost use Rattle.std.specs.List.{flat_map, zip};
 ghost use Rattle.std.specs.Option.{option_copied, option_map};
-ghost use Rattle.elf.specs.ElfBytes.{view};
-ghost use Rattle.elf.specs.ObjectFile.{object_file};
-ghost use Rattle.elf_records.specs.Endian.{any_is_little};
 ghost use Rattle.elf_records.specs.Table.{table_view};
 ghost use Rattle.elf_linking.specs.SymbolBindings.{AreAllBound};
 ghost use Rattle.elf_linking.specs.declared.bindings.kinds.SymbolBinding.{SymbolBinding as IsBinding};
@@ -17,7 +14,7 @@ ghost use Rattle.nugwier_programs.specs.Symbols.{one_said};
 ghost use Rattle.nugwier_programs.specs.Symbols.{outcome_problem, quoted, reference_problem, reference_said};
 ghost use Rattle.nugwier_programs.specs.Symbols.{symbol_problems};
 ghost use Rattle.nugwier_programs.specs.Symbols.{calls_word, symbol_said};
-ghost use Rattle.nugwier_programs.specs.inner.Scope.{file_view, indexed_view, scope_paths, versions_of};
+ghost use Rattle.nugwier_programs.specs.inner.Scope.{file_view, indexed_view, open_at, scope_paths, versions_of};
 ghost use Rattle.nugwier_report.specs.Bindings.{bound_view};
 ghost use Rattle.nugwier_report.specs.Said.{Said, saying};
 
@@ -54,9 +51,9 @@ pub(crate) fn say_file<W: Write, V: Write>(
         let objects = scope.entry.objects.now in
         let versions = versions_of (option_map indexed_view (slice_get objects place)) in
         OnOk result ((said : List Said)
-        × AreSymbolsSaid indexed_view objects (scope_paths scope.entry.files.now) (map indexed_view objects) opened.path
+        × AreSymbolsSaid indexed_view objects (scope_paths scope.entry.files.now) (map indexed_view objects) opened.opened.path
         opened.symbols versions (file_uses opened.opened opened.symbols.0) said
-        × (report.new ≡ saying report.old (file_heading place opened.path ++ said))) }
+        × (report.new ≡ saying report.old (file_heading place opened.opened.path ++ said))) }
 {
     let versions = scope.versions(place);
     say_heading(place, file, report)?;
@@ -99,9 +96,9 @@ fn uses_of<W: Write, V: Write>(
     report: &mut Report<'_, W, V>,
 ) -> Result<Vec<SymbolUses>, Stop>
     ensures uses { IfOk result (λ uses.
-        AreUses (file_uses (view file.now.file.now) (table_view file.now.symbols)) uses.items) }
+        AreUses (file_uses (open_at file.now.path.now file.now.file.now) (table_view file.now.symbols)) uses.items) }
     ensures said { OnOk result (report.new ≡ saying report.old
-        (uses_problem file.now.path.now (file_uses (view file.now.file.now) (table_view file.now.symbols)))) }
+        (uses_problem file.now.path.now (file_uses (open_at file.now.path.now file.now.file.now) (table_view file.now.symbols)))) }
 {
     let mut uses = no_uses(alloc, file.symbols.len())?;
     read_uses(file, &mut uses, report)?;
@@ -114,14 +111,16 @@ fn read_uses<W: Write, V: Write>(
     uses: &mut [SymbolUses],
     report: &mut Report<'_, W, V>,
 ) -> Result<(), Stop>
-    ensures uses { let opened = view file.now.file.now in
-        let read = dynamic_uses opened.ehdr.e_machine (object_file any_is_little opened) uses.old in
+    ensures uses { let opened = open_at file.now.path.now file.now.file.now in
+        let read = dynamic_uses opened.machine opened.file uses.old in
         OnOk result (AreUses read uses.new) }
-    ensures said { let opened = view file.now.file.now in
-        let read = dynamic_uses opened.ehdr.e_machine (object_file any_is_little opened) uses.old in
+    ensures said { let opened = open_at file.now.path.now file.now.file.now in
+        let read = dynamic_uses opened.machine opened.file uses.old in
         OnOk result (report.new ≡ saying report.old (uses_problem file.now.path.now read)) }
 {
-    match add_dynamic_uses(file.file, uses) {
+    let linked = file.file;
+    let machine = linked.ehdr.e_machine;
+    match add_dynamic_uses(machine, linked, uses) {
         Ok(()) => Ok(()),
         Err(error) => {
             let path = Quoted::new(file.path);

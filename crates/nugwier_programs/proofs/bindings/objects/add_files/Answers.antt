@@ -1,11 +1,11 @@
 use Rattle.std.proofs.Common.{append-nil, append_assoc, ℕ, ◌≤◌, ◌∷◌, [], ◌++◌, List, map, ap, subst, sym, ◌∙◌}
 use Rattle.std.proofs.lemmas.List.{length-map}
-use Rattle.nugwier_programs.specs.Bindings.{SearchedFile, files_of, search_problem}
+use Rattle.nugwier_programs.specs.Bindings.{IsFileSearched, SearchedFile, files_of, search_problem}
 use Rattle.nugwier_programs.specs.inner.Scope.{open_view, searched_file}
 use Rattle.nugwier_report.specs.Said.{saying}
 use Rattle.std.specs.List.{flat_map}
 use Rattle.nugwier_programs.proofs.Walk.{flat_more, said_two, saying_nothing}
-use Rattle.nugwier_programs.proofs.Scopes.{search_done, search_next}
+use Rattle.nugwier_programs.proofs.Scopes.{each_done, each_next}
 use Rattle.nugwier_programs.proofs.bindings.objects.add_files.Goals as goal
 
 pub loop-file-init : goal.loop-file-init
@@ -16,7 +16,7 @@ loop-file-preserved g c =
     let before = c.loop-file.invariant in
     let one = c.in_ok-add_file.ensures in (
       before.0 ++ one.0 ∷ [],
-      search_next c.args.files.now c.loop-file.file-index _ before.0 one.0 c.loop-file-test.true one.1 before.1,
+      each_next IsFileSearched open_view c.args.files.now c.loop-file.file-index c.file-item.result before.0 one.0 c.loop-file-test.true c.file-item.is one.1 before.1,
       said_two c.args.report.now c.loop-file.report c.add_file.new.report (flat_map search_problem before.0) (search_problem one.0) before.2 one.2 ∙ ap (saying c.args.report.now) (sym (flat_more search_problem before.0 one.0)),
       one.3 ∙ ap (λ (l : List SearchedFile). l ++ files_of one.0) before.3 ∙ append_assoc (map searched_file c.args.found.now.items) (flat_map files_of before.0) (files_of one.0)
           ∙ ap (λ (l : List SearchedFile). map searched_file c.args.found.now.items ++ l) (sym (flat_more files_of before.0 one.0)),
@@ -27,4 +27,4 @@ returns g c =
     let files = c.args.files.now in
     let before = c.loop-file.invariant in
     let past = subst (λ (n : ℕ). n ≤ c.loop-file.file-index) (sym (length-map files open_view)) c.loop-file-test.false in
-    (before.0, search_done (map open_view files) c.loop-file.file-index before.0 past before.1, before.2, before.3)
+    (before.0, each_done IsFileSearched (map open_view files) c.loop-file.file-index before.0 past before.1, before.2, before.3)

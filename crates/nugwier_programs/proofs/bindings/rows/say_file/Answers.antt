@@ -24,17 +24,17 @@ returns g c =
     let found = c.in_ok-bound.bound.items in
     let bound = subst (λ (u : List SymbolUses). (bindings : List SymbolBinding) × (found ≡ zip (looked_up opened.symbols.0 u) bindings)
     × AreAllBound indexed_view objects opened.symbols.1 versions u (looked_up opened.symbols.0 u) bindings) c.as_slice-uses.ensures.value c.in_ok-bound.ensures in
-    let symbols : List ((ℕ × Symbol) × SymbolBinding) → List Said = symbols_said paths (map indexed_view objects) opened.path opened.symbols.1 versions uses in
-    let heading = file_heading c.args.place opened.path in
-    let before = uses_problem opened.path read in
+    let symbols : List ((ℕ × Symbol) × SymbolBinding) → List Said = symbols_said paths (map indexed_view objects) opened.opened.path opened.symbols.1 versions uses in
+    let heading = file_heading c.args.place opened.opened.path in
+    let before = uses_problem opened.opened.path read in
     let shown = c.as_slice-bound.result.now in
-    let said_bindings = subst (λ (u : List SymbolUses). c.say_bindings.new.report ≡ saying c.uses_of.new.report (flat_map (one_said paths (map indexed_view objects) opened.path opened.symbols.1 versions u) shown))
+    let said_bindings = subst (λ (u : List SymbolUses). c.say_bindings.new.report ≡ saying c.uses_of.new.report (flat_map (one_said paths (map indexed_view objects) opened.opened.path opened.symbols.1 versions u) shown))
     c.as_slice-uses.ensures.value c.in_ok-say_bindings.ensures in
     let told = said_three c.say_heading.new.report c.uses_of.new.report c.say_bindings.new.report c.say_problems.new.report before
-    (flat_map (one_said paths (map indexed_view objects) opened.path opened.symbols.1 versions uses) shown) (flat_map (one_problems paths opened.path opened.symbols.1 versions) shown)
+    (flat_map (one_said paths (map indexed_view objects) opened.opened.path opened.symbols.1 versions uses) shown) (flat_map (one_problems paths opened.opened.path opened.symbols.1 versions) shown)
     c.in_ok-found.ensures.said said_bindings c.in_ok-say_problems.ensures in (
       before ++ symbols found,
-      subst (λ (v : Option Versions). AreSymbolsSaid indexed_view objects paths (map indexed_view objects) opened.path opened.symbols v read (before ++ symbols found)) c.versions-versions.ensures
+      subst (λ (v : Option Versions). AreSymbolsSaid indexed_view objects paths (map indexed_view objects) opened.opened.path opened.symbols v read (before ++ symbols found)) c.versions-versions.ensures
           (uses, c.in_ok-found.ensures.uses, bound.0, bound.2, ap (λ (all : List ((ℕ × Symbol) × SymbolBinding)). before ++ symbols all) bound.1),
       said_two c.args.report.now c.say_heading.new.report c.say_problems.new.report heading (before ++ symbols shown) c.in_ok-say_heading.ensures told
           ∙ ap (λ (all : List ((ℕ × Symbol) × SymbolBinding)). saying c.args.report.now (heading ++ (before ++ symbols all))) c.as_slice-bound.ensures.value,

@@ -1,0 +1,79 @@
+//! The file of an object, with what look-ups use of it.
+ghost use Rattle.std.specs.Prelude.{◌≡◌, IfOk, IfSome};
+ghost use Rattle.elf_linking.specs.Tree.{found_view};
+ghost use Rattle.nugwier_programs.specs.Bindings.{content_of};
+ghost use Rattle.nugwier_programs.specs.inner.Opening.{IsLoadedAs, IsLoadedFrom, IsLinkedTo};
+
+use elf::endian::AnyEndian;
+use elf::{Closed, ElfBytes, ElfStream, MemSource, ParseError, StreamSource};
+use elf_linking::links::load_links;
+use elf_linking::tree::LoadedFile;
+use nugwier_files::files::Files;
+use nugwier_files::opening::Opening;
+use std::alloc::{AllocError, Global};
+
+/// What is loaded of a file, whose source is closed.
+pub(crate) type Linked = ElfStream<AnyEndian, Closed, Global>;
+
+// What look-ups use of the file of a source.
+fn load<S: StreamSource>(alloc: Global, source: S) -> Result<Linked, ParseError>
+    ensures { IfOk result (λ file. IfSome (S.content source) (λ bytes. IsLinkedTo bytes file)) }
+{
+    let mut stream = ElfStream::<AnyEndian, S, Global>::open_stream(alloc, source)?;
+    load_links(&mut stream)?;
+    Ok(stream.close())
+}
+
+// The same of bytes, or why they are no ELF file. The outer error is a failed allocation.
+fn load_bytes(alloc: Global, bytes: &[u8]) -> Result<Result<Linked, ParseError>, AllocError>
+    ensures { IfOk result (λ found. IsLoadedAs bytes.now found) }
+{
+    if let Err(error) = ElfBytes::<AnyEndian>::minimal_parse(bytes) {
+        return Ok(Err(error));
+    }
+    match load(alloc, MemSource::new(bytes)) {
+        Ok(file) => Ok(Ok(file)),
+        Err(_) => Err(AllocError),
+    }
+}
+
+// The same of the library at a path, if there is one. A library that cannot be read by parts is read whole.
+fn load_library<F: Files>(
+    alloc: Global,
+    files: &F,
+    path: &[u8],
+) -> Result<Option<Result<Linked, ParseError>>, AllocError>
+    ensures { IfOk result (λ found. IfSome (F.known files.now)
+        (λ files. IsLoadedFrom (files.contents path.now) found)) }
+{
+    match files.open_library(path) {
+        Opening::Missing => return Ok(None),
+        Opening::Parts(source) => {
+            if let Ok(file) = load(alloc, source) {
+                return Ok(Some(Ok(file)));
+            }
+        }
+        Opening::Whole => {}
+    }
+    files.has_libraries();
+    match files.read_library(path)? {
+        Some(bytes) => Ok(Some(load_bytes(alloc, &bytes)?)),
+        None => Ok(None),
+    }
+}
+
+/// Loads what look-ups use of a file: of its bytes, if they were kept, or else of what is at its path, if it can still be
+/// read. The inner error is why it is no ELF file, the outer one a failed allocation.
+pub(crate) fn load_object<F: Files>(
+    alloc: Global,
+    files: &F,
+    file: &LoadedFile,
+) -> Result<Option<Result<Linked, ParseError>>, AllocError>
+    ensures { IfOk result (λ found. let kept = found_view file.now in
+        IfSome (content_of (F.known files.now) kept.path kept.bytes) (λ content. IsLoadedFrom content found)) }
+{
+    if file.bytes.is_empty() {
+        return load_library(alloc, files, &file.path);
+    }
+    Ok(Some(load_bytes(alloc, &file.bytes)?))
+}
