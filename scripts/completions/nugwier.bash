@@ -1,6 +1,7 @@
 # Completion of nugwier for bash: commands, options and files.
 _nugwier() {
     local word=${COMP_WORDS[COMP_CWORD]} before=${COMP_WORDS[COMP_CWORD - 1]}
+    local commands="list symbols needed exports build-id plan check harden address tree bindings"
     COMPREPLY=()
     # The sign in --root=FOLDER is a word of its own.
     if [ "$word" = = ]; then
@@ -10,7 +11,11 @@ _nugwier() {
     fi
     if [ "$COMP_CWORD" -eq 1 ]; then
         mapfile -t COMPREPLY < <(compgen -W \
-            "list symbols needed exports build-id plan check harden address tree bindings --help --version" -- "$word")
+            "$commands help --json -R --recursive --color=always --color=never -h --help -V --version" -- "$word")
+        return
+    fi
+    if [ "${COMP_WORDS[1]}" = help ]; then
+        mapfile -t COMPREPLY < <(compgen -W "$commands" -- "$word")
         return
     fi
     if [ "${COMP_WORDS[1]}" = list ]; then
@@ -47,10 +52,10 @@ _nugwier() {
     elif [ "${COMP_WORDS[1]}" = symbols ] && [ "${word#-}" != "$word" ]; then
         mapfile -t COMPREPLY < <(compgen -W \
             "-D -g -u -n -p -S -P --dynamic --extern-only --undefined-only --defined-only --numeric-sort --size-sort \
---no-sort --print-size --format=posix --format -f --color=always --color=never --json --help" -- "$word")
+--no-sort --print-size --format=posix --format -f --color=always --color=never --json -R --recursive --help" -- "$word")
         return
     elif [ "${COMP_WORDS[1]}" = exports ] && [ "${word#-}" != "$word" ]; then
-        mapfile -t COMPREPLY < <(compgen -W "--functions --color=always --color=never --json --help" -- "$word")
+        mapfile -t COMPREPLY < <(compgen -W "--functions --color=always --color=never --json -R --recursive --help" -- "$word")
         return
     elif [ "${word#-}" != "$word" ]; then
         mapfile -t COMPREPLY < <(compgen -W "--color=always --color=never --json -R --recursive --help" -- "$word")

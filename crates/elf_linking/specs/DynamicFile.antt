@@ -71,16 +71,16 @@ dynamic_versions {x} file =
 
 -- ---- the object: the hash table over the symbols, and their versions
 
-abbrev pub made : Bool → Class → Result (Option HashParts) ObjectFault → Option (Result Object ObjectFault)
-made little class (Ok (Some parts)) =
+abbrev pub table_of_parts : Bool → Class → Result (Option HashParts) ObjectFault → Option (Result Object ObjectFault)
+table_of_parts little class (Ok (Some parts)) =
     Some (or_fault Whole (object_in parts.0 little class parts.1.0 parts.1.1.0 parts.1.1.1))
-made little class (Ok None) = None
-made little class (Err fault) = Some (Err fault)
+table_of_parts little class (Ok None) = None
+table_of_parts little class (Err fault) = Some (Err fault)
 
 abbrev pub GivesDynamic : {C : Type 0} {x : Extent} → (C → VersionedObject) → FileOf x → Result (Option C) ObjectFault →
     Type 0
 GivesDynamic view file result =
-    GivesObject view (made file.little file.class (hash_parts file)) (dynamic_versions file) (λ fault. fault) result
+    GivesObject view (table_of_parts file.little file.class (hash_parts file)) (dynamic_versions file) (λ fault. fault) result
 
 -- ---- the uses of the symbols by relocations of this machine
 

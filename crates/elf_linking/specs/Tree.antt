@@ -19,7 +19,7 @@ use Rattle.elf_records.specs.declared.file.Class.{Class}
 use Rattle.elf_records.specs.declared.file.Class.TheVariants.{ELF32, ELF64}
 use Rattle.elf_records.specs.declared.file.FileHeader.{FileHeader}
 use Rattle.elf_records.specs.declared.parse.ParseError.{ParseError}
-use Rattle.elf_reading.specs.Opening.{FileView, opened_file}
+use Rattle.elf_reading.specs.Opening.{FileView, opened_by_segments, opened_file}
 use Rattle.elf.specs.ObjectFile.{object_file}
 use Rattle.elf_linking.specs.Needed.{Named, Wanted, names, names_view}
 use Rattle.elf_linking.specs.Search.{Object as Searching, Others, Places, Tokens, candidates_of, expansion, places}
@@ -74,9 +74,18 @@ found_in path bytes v = record {
   names = names (object_file any_is_little v);
 }
 
--- the ELF file that the bytes at a path are, or why they are none
+-- the first, or why there is none
+abbrev pub or_other : {A : Type 0} → Result A ParseError → Result A ParseError → Result A ParseError
+or_other (Ok x) other = Ok x
+or_other (Err e) (Ok other) = Ok other
+or_other (Err e) (Err later) = Err e
+
+-- The ELF file that the bytes at a path are, or why they are none. The dynamic linker reads no section headers: where they
+-- cannot be read, the file is read through its segments.
 abbrev pub file_of : List ℕ → List ℕ → Result Found ParseError
-file_of path bytes = ok_map (found_in path bytes) (opened_file any_is_little any_of_byte bytes)
+file_of path bytes =
+    ok_map (found_in path bytes)
+    (or_other (opened_file any_is_little any_of_byte bytes) (opened_by_segments any_is_little any_of_byte bytes))
 
 -- the ELF file at a path, if one is there; `files` are the contents of the files by their paths
 abbrev pub opened_as : List ℕ → Option (List ℕ) → Option Found

@@ -1,5 +1,5 @@
 //! What look-ups use of a file, from a source: its symbols for dynamic linking, its hash section, its versions and its
-//! relocations. Nothing else is loaded of the source but the headers.
+//! relocations.
 ghost use Rattle.std.specs.Prelude.{◌≡◌, IfSome, IsNone, OnOk};
 ghost use Rattle.elf.specs.ElfStream.{Keeps};
 ghost use Rattle.elf.specs.Parts.{loaded};
@@ -14,9 +14,10 @@ use crate::laws::part_links_as_whole;
 use crate::resolve::ObjectFault;
 use elf::endian::EndianParse;
 use elf::reader::Reader;
+use elf::section::SectionHeader;
 use elf::{ElfStream, ParseError, StreamSource};
 use elf_dynamic::dynamic_view::DynamicError;
-use std::alloc::{Allocator, Global};
+use std::alloc::Global;
 
 // A range of a file, by its start and its end.
 type Range = (u64, u64);
@@ -57,33 +58,66 @@ fn missing_link<E: EndianParse, R: Reader<E>>(file: &R) -> Option<Range>
     missing_uses(&add_dynamic_uses(0, file, &mut []))
 }
 
-// Loads the sections of relocations of symbols for dynamic linking, up to the first that is larger than what those
-// before it left of the file. After each range that is missing all is looked at once more, and there may be thousands
-// of these sections.
-fn load_relocations<E: EndianParse, S: StreamSource, A: Allocator + Copy>(
-    stream: &mut ElfStream<E, S, A>,
-) -> Result<(), ParseError>
+// Loads a range, if no more than this number of bytes are left to load range by range, and returns how many are left after
+// it. A longer range lies in part in others: then the source is loaded whole.
+fn load_within<E: EndianParse, S: StreamSource>(
+    stream: &mut ElfStream<E, S, Global>,
+    left: u64,
+    range: Range,
+) -> Result<u64, ParseError>
     ensures { Keeps stream.old stream.new }
 {
-    let mut left = stream.source_len();
-    for index in 0..stream.section_headers().len() {
-        let Some(section) = stream.section_headers().get(index) else {
-            return Ok(());
-        };
-        let section = *section;
-        if is_dynamic(&*stream, &section) {
-            if section.sh_size > left {
-                return Ok(());
-            }
-            left -= section.sh_size;
-            stream.load_range(section.sh_offset, section.sh_size)?;
+    let size = range.1.saturating_sub(range.0);
+    match left.checked_sub(size) {
+        Some(after) => {
+            stream.load_range(range.0, size)?;
+            Ok(after)
+        }
+        None => {
+            let len = stream.source_len();
+            stream.load_range(0, len)?;
+            Ok(left)
         }
     }
-    Ok(())
+}
+
+// The bytes of a section, if they lie in a source of this length.
+fn range_in(len: u64, section: &SectionHeader) -> Option<Range> {
+    let end = section.sh_offset.checked_add(section.sh_size)?;
+    if end <= len {
+        Some((section.sh_offset, end))
+    } else {
+        None
+    }
+}
+
+// Loads the sections of relocations of symbols for dynamic linking. There may be thousands of them, and after each range
+// that is missing the reading begins again. Returns how many bytes are left to load range by range.
+fn load_relocations<E: EndianParse, S: StreamSource>(
+    stream: &mut ElfStream<E, S, Global>,
+) -> Result<u64, ParseError>
+    ensures { Keeps stream.old stream.new }
+{
+    let len = stream.source_len();
+    let mut left = len;
+    for index in 0..stream.section_headers().len() {
+        let Some(section) = stream.section_headers().get(index) else {
+            return Ok(left);
+        };
+        let section = *section;
+        if is_dynamic(&*stream, &section)
+            && let Some(range) = range_in(len, &section)
+        {
+            left = load_within(stream, left, range)?;
+        }
+    }
+    Ok(left)
 }
 
 /// Loads what look-ups use of a file: what `dynamic_symbols`, `dynamic_object` and `add_dynamic_uses` read of it. After
-/// this these return what they return of the whole file.
+/// this these return what they return of the whole file. Beside the headers at most twice the bytes of the source are
+/// loaded: what is used range by range, and where ranges overlap so that together they are longer than the source, the
+/// source once.
 ///
 /// Errors: `IOError` if the source failed, `OutOfMemory` if an allocation failed. That the file is damaged is no error.
 pub fn load_links<E: EndianParse, S: StreamSource>(
@@ -93,15 +127,15 @@ pub fn load_links<E: EndianParse, S: StreamSource>(
     ensures links { OnOk result (IfSome stream.new.content (λ bytes.
         SameLinks (stream_file E.little stream.new bytes) (loaded_part E.little stream.new))) }
 {
-    load_relocations(stream)?;
+    let mut left = load_relocations(stream)?;
     // Each round loads a range that was missing, and no source has that many.
     'rounds: for _ in 0..u64::MAX {
         stream.is_part_of_file();
         part_links_as_whole();
-        let Some((start, end)) = missing_link(&*stream) else {
+        let Some(range) = missing_link(&*stream) else {
             return Ok(());
         };
-        stream.load_range(start, end.saturating_sub(start))?;
+        left = load_within(stream, left, range)?;
     }
     Err(ParseError::OutOfMemory)
 }

@@ -6,8 +6,9 @@
 //! libraries that an object names by `DT_FILTER` or `DT_AUXILIARY`, its filtees, before the object itself.
 //!
 //! Each library is searched for at the paths of `search::candidates`. The first file there is loaded that is an ELF file of
-//! the program's class, byte order and machine; others are passed over, even those at which the dynamic linker stops. A
-//! file is known by its path, so another path to it is another file.
+//! the program's class, byte order and machine; others are passed over, even those at which the dynamic linker stops. Where
+//! its section headers cannot be read, a file is read through its segments, as the dynamic linker reads all files. A file
+//! is known by its path, so another path to it is another file.
 ghost use Rattle.std.specs.Prelude.{◌≡◌, ◌<◌, ◌++◌, ◌∷◌, [], ℕ, List, Some, None, if◌then◌else◌, ◌==◌, length, map};
 ghost use Rattle.std.specs.Prelude.{IfOk, IfSome, Ok, OnOk, position, slice_get, unwrap_or};
 ghost use Rattle.std.specs.Option.{option_map};
@@ -15,7 +16,7 @@ ghost use Rattle.std.specs.Vec.{vec_items};
 ghost use Rattle.std.specs.declared.option.Option.{Option};
 ghost use Rattle.elf.specs.ElfBytes.{view};
 ghost use Rattle.elf.specs.ObjectFile.{object_file};
-ghost use Rattle.elf_reading.specs.Opening.{FileView, headers_of, opened_file};
+ghost use Rattle.elf_reading.specs.Opening.{FileView, headers_of, opened_by_segments, opened_file};
 ghost use Rattle.elf_records.specs.Endian.{any_is_little, any_of_byte};
 ghost use Rattle.elf_records.specs.declared.endian.AnyEndian.{AnyEndian};
 ghost use Rattle.elf_records.specs.Number.{ok_map};
@@ -28,7 +29,7 @@ ghost use Rattle.elf_linking.specs.Tree.{Found, fitting, folder_of, found_in, fo
 ghost use Rattle.elf_linking.specs.Tree.{add, done, expanded, if_filtee, in_order, load, load_all, named_by, step, started};
 ghost use Rattle.elf_linking.specs.Tree.{known, last_slash, loader_at, loaders_at, no_names, place_of, places_at, places_in};
 ghost use Rattle.elf_linking.specs.Tree.{names_of as names_of_entry, put_before, with_file, with_libraries, without_bytes};
-ghost use Rattle.elf_linking.specs.Tree.{program_entry, waits};
+ghost use Rattle.elf_linking.specs.Tree.{or_other, program_entry, waits};
 ghost use Rattle.elf_linking.specs.Tree.{same_class, same_kind, same_order, searching, searching_at};
 ghost use Rattle.elf_linking.specs.inner.LoadedNames.{AreNamesOf};
 ghost use Rattle.elf_linking.specs.inner.Loading.{loading_view, named_in};
@@ -208,6 +209,20 @@ fn names_of(
     }
 }
 
+// The file that bytes are, through its segments if its section headers cannot be read.
+fn open_bytes(bytes: &[u8]) -> Result<ElfBytes<'_, AnyEndian>, ParseError>
+    ensures { ok_map view result ≡ or_other (opened_file any_is_little any_of_byte bytes.now)
+        (opened_by_segments any_is_little any_of_byte bytes.now) }
+{
+    match ElfBytes::<AnyEndian>::minimal_parse(bytes) {
+        Ok(file) => Ok(file),
+        Err(error) => match ElfBytes::<AnyEndian>::parse_by_segments(bytes) {
+            Ok(file) => Ok(file),
+            Err(_) => Err(error),
+        },
+    }
+}
+
 // The place of a slash, or else the last one before.
 fn slash_or(byte: u8, place: usize, last: Option<usize>) -> Option<usize>
     ensures { result ≡ (if byte == 47 then Some place else last) }
@@ -248,12 +263,12 @@ fn bytes_if<'a>(names: &'a Names, name: &Option<Name>) -> Option<&'a [u8]>
 }
 
 impl LoadedFile {
-    /// Returns the file that the bytes at a path are. The errors are `Open` and `Memory`. That its names are not
-    /// available is no error.
+    /// Returns the file that the bytes at a path are, through its segments if its section headers cannot be read. The
+    /// errors are `Open` and `Memory`. That its names are not available is no error.
     pub fn open(alloc: Global, path: Vec<u8>, bytes: Vec<u8>) -> Result<LoadedFile, OpenError>
         ensures { IsOpened path.items bytes.items result }
     {
-        let file = match ElfBytes::<AnyEndian>::minimal_parse(&bytes) {
+        let file = match open_bytes(&bytes) {
             Ok(file) => file,
             Err(error) => return Err(OpenError::Open(error)),
         };

@@ -5,21 +5,27 @@ ghost use Rattle.elf_names.specs.Machines.{in_use, machine_name};
 ghost use Rattle.elf_names.specs.Table.{rows_of};
 
 use crate::table::{Names, name_in};
-use elf_abi::to_str;
+use elf_abi::{abi, to_str};
 
 /// The number of Alpha in files of Linux and BSD, which do not use that of `elf_abi::abi::EM_ALPHA`.
 pub const GNU_ALPHA: u16 = 0x9026;
 
-/// Returns the name of a machine (`e_machine`): that of `elf_abi::to_str`, else that of a number that is in use without
-/// being assigned.
+/// Returns the name of a machine (`e_machine`): that of `elf_abi::to_str`, else that of a newer machine or of a number that
+/// is in use without being assigned.
 pub fn machine_name(e_machine: u16) -> Option<&'static str>
     ensures { option_copied result ≡ machine_name e_machine }
 {
     to_str::e_machine_to_str(e_machine).or(name_in(in_use(), e_machine))
 }
 
-/// Numbers that are in use without being assigned.
-pub const IN_USE: Names<u16> = &[(GNU_ALPHA, "EM_ALPHA")];
+/// The names of numbers that `elf_abi::to_str` does not name: machines that are newer than its list, and numbers that are
+/// in use without being assigned.
+pub const IN_USE: Names<u16> = &[
+    (abi::EM_LANAI, "EM_LANAI"),
+    (abi::EM_CSKY, "EM_CSKY"),
+    (abi::EM_LOONGARCH, "EM_LOONGARCH"),
+    (GNU_ALPHA, "EM_ALPHA"),
+];
 
 #[tactic(auto, unfolding(crate::specs::Machines::in_use))]
 fn in_use() -> Names<u16>

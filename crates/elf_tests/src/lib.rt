@@ -12,6 +12,8 @@ mod files;
 #[cfg(test)]
 mod flushes;
 #[cfg(test)]
+mod links;
+#[cfg(test)]
 mod listing;
 #[cfg(test)]
 mod memory;

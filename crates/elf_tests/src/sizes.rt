@@ -13,7 +13,11 @@ use std::alloc::{AllocError, Global};
 use std::test::Fail;
 
 /// Zeros, except for these bytes at these places.
-fn bytes_at(alloc: Global, size: usize, parts: &[(usize, &[u8])]) -> Result<Vec<u8>, AllocError> {
+pub(crate) fn bytes_at(
+    alloc: Global,
+    size: usize,
+    parts: &[(usize, &[u8])],
+) -> Result<Vec<u8>, AllocError> {
     let mut all = vec![in alloc; 0; size]?;
     for (place, bytes) in parts {
         for (found, byte) in all.iter_mut().skip(*place).zip(*bytes) {
@@ -24,7 +28,7 @@ fn bytes_at(alloc: Global, size: usize, parts: &[(usize, &[u8])]) -> Result<Vec<
 }
 
 /// The begin of a 64-bit file in little order.
-const IDENT: &[u8] = &[0x7f, 0x45, 0x4c, 0x46, 2, 1, 1];
+pub(crate) const IDENT: &[u8] = &[0x7f, 0x45, 0x4c, 0x46, 2, 1, 1];
 
 // The greatest version index, 32,767, needs the most places.
 #[test]

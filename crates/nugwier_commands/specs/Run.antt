@@ -14,6 +14,7 @@ use Rattle.elf_records.specs.Endian.{any_is_little, any_of_byte}
 use Rattle.elf_records.specs.declared.endian.AnyEndian.{AnyEndian}
 use Rattle.elf_records.specs.declared.file.FileHeader.{FileHeader}
 use Rattle.elf_records.specs.declared.parse.ParseError.{ParseError}
+use Rattle.elf_records.specs.declared.parse.ParseError.TheVariants.{SliceReadError}
 use Rattle.elf_reading.specs.Opening.{FileView, headers_of, opened_by_segments, opened_file}
 use Rattle.elf.specs.StreamFile.{listed_file}
 use Rattle.elf_linking.specs.Tree.{file_of}
@@ -34,7 +35,7 @@ use Rattle.nugwier_commands.specs.declared.run.Outcome.TheVariants.{Done, Stoppe
 use Rattle.nugwier_report.specs.Told.{IsTold, told_line}
 use Rattle.nugwier_report.specs.declared.kind.Kind.{Kind}
 use Rattle.nugwier_report.specs.declared.kind.Kind.TheVariants.{FileHeading, NextFileHeading}
-use Rattle.nugwier_report.specs.declared.problem.Fault.TheVariants.{OtherFormat, Read, System}
+use Rattle.nugwier_report.specs.declared.problem.Fault.TheVariants.{OtherFormat, PastEnd, Read, System}
 use Rattle.nugwier_report.specs.declared.problem.Fault.{Fault}
 use Rattle.nugwier_report.specs.declared.problem.Part.TheVariants.{File, SectionHeaders}
 use Rattle.nugwier_report.specs.declared.report.Format.{Format}
@@ -72,6 +73,11 @@ abbrev pub IsViewSaid : Task → List ℕ → List ℕ → FileView AnyEndian �
 IsViewSaid task path bytes v named said =
     IsFileSaid any_is_little any_of_byte task path v.ehdr (listed_file any_is_little (headers_of v) bytes) named said
 
+-- why the section headers of a file with this number of bytes are not read
+abbrev pub lost_fault : ParseError → ℕ → Fault
+lost_fault (SliceReadError range) size = PastEnd range size
+lost_fault error size = Read error
+
 -- Where opening it has this error: that its section headers cannot be read, and what is said of it through its segments;
 -- or, if it does not open by them either, why it is no ELF file. A file that does not open is not sound, so a check says
 -- the same of both.
@@ -79,7 +85,8 @@ abbrev pub IsUnopenedSaid : Command → Task → List ℕ → List ℕ → Parse
     Named → List Said → Type 0
 IsUnopenedSaid Check task path bytes e by_segments named said = IsProblemSaid (Read e) named said
 IsUnopenedSaid other task path bytes e (Ok v) named said =
-    (rest : List Said) × IsViewSaid task path bytes v named rest × (said ≡ wrong (whole SectionHeaders) (Read e) ∷ rest)
+    (rest : List Said) × IsViewSaid task path bytes v named rest
+    × (said ≡ wrong (whole SectionHeaders) (lost_fault e (length bytes)) ∷ rest)
 IsUnopenedSaid other task path bytes e (Err _) named said = IsProblemSaid (Read e) named said
 
 abbrev pub IsOpenedSaid : Task → List ℕ → List ℕ → Result (FileView AnyEndian) ParseError → Named → List Said → Type 0

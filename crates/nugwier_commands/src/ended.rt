@@ -4,7 +4,7 @@ ghost use Rattle.nugwier_report.specs.Labels.{named_by, no_sections};
 ghost use Rattle.nugwier_report.specs.Said.{Said, saying, whole, wrong};
 ghost use Rattle.nugwier_report.specs.declared.problem.Part.TheVariants.{File};
 ghost use Rattle.nugwier_report.specs.declared.report.Summary.{Summary};
-ghost use Rattle.nugwier_commands.specs.Run.{IsProgramSaid, IsWritten, heading_said, search_of};
+ghost use Rattle.nugwier_commands.specs.Run.{IsProgramSaid, IsWritten, heading_said, lost_fault, search_of};
 ghost use Rattle.nugwier_commands.specs.inner.Loading.{unread_said, written_by};
 ghost use Rattle.nugwier_programs.specs.Tree.{search_view, IsNamedSaid};
 ghost use Rattle.elf_linking.specs.Tree.{found_view};
@@ -72,15 +72,33 @@ impl<W: Write, V: Write> Ended<W, V> {
     }
 }
 
+/// Why the section headers of a file with this number of bytes are not read.
+#[derive(Drop)]
+pub(crate) struct LostHeaders {
+    pub error: ParseError,
+    pub len: usize,
+}
+
+impl LostHeaders {
+    fn fault(self) -> Fault<'static>
+        ensures { result ≡ lost_fault self.error self.len }
+    {
+        match self.error {
+            ParseError::SliceReadError(range) => Fault::PastEnd(range, self.len),
+            error => Fault::Read(error),
+        }
+    }
+}
+
 // Says why section headers were not read, if they were not.
 fn say_unread<W: Write, V: Write>(
-    unread: Option<ParseError>,
+    unread: Option<LostHeaders>,
     report: &mut Report<'_, W, V>,
 ) -> Result<(), Stop>
     ensures { OnOk result (report.new ≡ saying report.old (unread_said unread)) }
 {
     match unread {
-        Some(error) => report.problem(Part::SectionHeaders.whole(), Fault::Read(error)),
+        Some(lost) => report.problem(Part::SectionHeaders.whole(), lost.fault()),
         None => Ok(()),
     }
 }
@@ -103,7 +121,7 @@ impl<'j> Target<'j> {
     fn say<E: EndianParse, W: Write, V: Write>(
         &self,
         alloc: Global,
-        unread: Option<ParseError>,
+        unread: Option<LostHeaders>,
         tables: JobTables<'_, '_, E>,
         report: &mut Report<'_, W, V>,
     ) -> Result<(), Stop>
@@ -133,7 +151,7 @@ impl<'j> Target<'j> {
     pub(crate) fn say_taken<E: EndianParse, W: Write, V: Write>(
         &self,
         alloc: Global,
-        unread: Option<ParseError>,
+        unread: Option<LostHeaders>,
         labels: Labels<'_>,
         tables: JobTables<'_, '_, E>,
         out: W,

@@ -13,7 +13,7 @@ ghost use Rattle.nugwier_report.specs.Labels.{named_by};
 ghost use Rattle.nugwier_report.specs.Said.{Said};
 ghost use Rattle.nugwier_words.specs.Words.{task_of};
 
-use crate::ended::{Ended, Target};
+use crate::ended::{Ended, LostHeaders, Target};
 use crate::preloading::preload;
 use elf::endian::{AnyEndian, EndianParse};
 use elf::{ElfBytes, ElfStream, ParseError, StreamSource};
@@ -89,7 +89,7 @@ pub(crate) fn list_bytes<E: EndianParse, W: Write, V: Write>(
     target: Target<'_>,
     bytes: &[u8],
     file: &ElfBytes<'_, E>,
-    unread: Option<ParseError>,
+    unread: Option<LostHeaders>,
     out: W,
     err: V,
 ) -> Ended<W, V>
@@ -110,7 +110,7 @@ fn list_file<E: EndianParse, R: ListedFile<E>, W: Write, V: Write>(
     alloc: Global,
     target: Target<'_>,
     file: &R,
-    unread: Option<ParseError>,
+    unread: Option<LostHeaders>,
     out: W,
     err: V,
 ) -> Ended<W, V>

@@ -6,10 +6,12 @@ use elf::endian::EndianParse;
 use elf::section::SectionHeader;
 use elf::segment::ProgramHeader;
 use elf::{ElfStream, ParseError, StreamSource, abi};
-use nugwier_listing::chains::is_hash;
 use nugwier_listing::contents::has_name;
 use nugwier_listing::headings::known_names;
 use nugwier_listing::taking::NotTaken;
+use nugwier_listing::typed_sections::{
+    GROUP_TYPES, HASH_TYPES, NOTE_TYPES, RELOCATION_TYPES, VERSION_TYPES,
+};
 use nugwier_words::words::{Command, Job};
 use std::alloc::{AllocError, Global};
 
@@ -75,14 +77,12 @@ fn sum(ranges: &[Range]) -> u64 {
 
 // Whether a job takes all sections of a type.
 fn takes_sections(job: &Job<'_>, sh_type: u32) -> bool {
-    let is_list = matches!(job.command, Command::List);
-    match sh_type {
-        abi::SHT_REL | abi::SHT_RELA => is_list && job.parts.relocations,
-        abi::SHT_GNU_VERDEF | abi::SHT_GNU_VERNEED => is_list && job.parts.versions,
-        abi::SHT_GROUP => is_list && job.parts.groups,
-        abi::SHT_NOTE => takes_notes(job),
-        _ => false,
-    }
+    let lists = matches!(job.command, Command::List);
+    let parts = &job.parts;
+    lists && parts.relocations && RELOCATION_TYPES.contains(&sh_type)
+        || lists && parts.versions && VERSION_TYPES.contains(&sh_type)
+        || lists && parts.groups && GROUP_TYPES.contains(&sh_type)
+        || takes_notes(job) && NOTE_TYPES.contains(&sh_type)
 }
 
 // Whether a job takes all hash sections. Their symbols are not taken.
@@ -152,7 +152,7 @@ fn add_sections(
                 add_links(sections, section, ranges)?;
             }
             last_link = section.sh_link;
-        } else if takes_chains(job) && is_hash(section) {
+        } else if takes_chains(job) && HASH_TYPES.contains(&section.sh_type) {
             add_section(section, ranges)?;
         }
     }

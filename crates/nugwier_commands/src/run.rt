@@ -14,7 +14,7 @@ ghost use Rattle.nugwier_report.specs.Formats.{front};
 ghost use Rattle.nugwier_words.specs.Words.{parsed, run as run_answer, task_of};
 
 use crate::archive::{is_archive, run_archive};
-use crate::ended::{Ended, Target};
+use crate::ended::{Ended, LostHeaders, Target};
 use crate::loading::{Listed, list_bytes, list_source, stopped};
 use crate::places::run_places;
 use elf::endian::AnyEndian;
@@ -589,7 +589,11 @@ fn run_unopened<W: Write, V: Write>(
         return target.say_problem(alloc, Fault::Read(error), out, err);
     }
     match ElfBytes::<AnyEndian>::parse_by_segments(bytes) {
-        Ok(file) => list_bytes(alloc, target, bytes, &file, Some(error), out, err),
+        Ok(file) => {
+            let len = bytes.len();
+            let lost = LostHeaders { error, len };
+            list_bytes(alloc, target, bytes, &file, Some(lost), out, err)
+        }
         Err(_) => target.say_problem(alloc, Fault::Read(error), out, err),
     }
 }

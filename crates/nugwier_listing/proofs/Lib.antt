@@ -5,7 +5,6 @@ pub mod Viewed
 -- the number that a word is
 pub mod Numbers
 mod NoteEnds
-mod PartViews
 mod Hardened
 -- the symbols of a table, each with its number
 pub mod Ordered

@@ -1,7 +1,7 @@
 -- What is said of the chains of hash sections (gABI, chapter "Hash Table", and GNU's).
-use Rattle.std.specs.Prelude.{ℕ, zero, suc, ◌+◌, ◌-◌, ◌*◌, ◌%◌, ◌==◌, ◌||◌, nat_lt, Bool, if◌then◌else◌, List, [], ◌∷◌}
+use Rattle.std.specs.Prelude.{ℕ, zero, suc, ◌+◌, ◌-◌, ◌*◌, ◌%◌, ◌==◌, nat_lt, if◌then◌else◌, List, [], ◌∷◌}
 use Rattle.std.specs.Prelude.{length, sum, Result, Ok, Err}
-use Rattle.elf.specs.Data.{content}
+use Rattle.std.specs.List.{flat_map}
 use Rattle.elf.specs.ObjectFile.{ObjectFile, err_map}
 use Rattle.elf_abi.specs.declared.abi.TheConstants.{SHT_GNU_HASH, SHT_HASH}
 use Rattle.elf_parts.specs.GnuFind.{GnuTable, gnu_section, gnu_view}
@@ -14,8 +14,8 @@ use Rattle.elf_records.specs.Word.{u32_reads}
 use Rattle.elf_records.specs.declared.parse.ParseError.{ParseError}
 use Rattle.elf_records.specs.declared.section.SectionHeader.{SectionHeader}
 use Rattle.nugwier_listing.specs.Headings.{known_names, name_shown}
-use Rattle.nugwier_listing.specs.Notes.{left_after, numbered_within, within}
 use Rattle.nugwier_listing.specs.Read.{given_said}
+use Rattle.nugwier_listing.specs.TypedSections.{TypedSection, sections_of}
 use Rattle.nugwier_listing.specs.declared.chains.HashTable.{HashTable}
 use Rattle.nugwier_listing.specs.declared.chains.HashTable.TheVariants.{Gnu, SysV}
 use Rattle.nugwier_report.specs.Chains.{ChainsView, chains_said}
@@ -109,9 +109,6 @@ chains_in t = ok_map chains_by (all_lengths t)
 
 -- ---- what is said
 
-abbrev pub is_hash : SectionHeader → Bool
-is_hash s = s.sh_type == SHT_HASH || s.sh_type == SHT_GNU_HASH
-
 -- the hash section with these bytes
 abbrev pub hash_table : ObjectFile → SectionHeader → List ℕ → Result HashView ParseError
 hash_table file s bytes =
@@ -125,22 +122,14 @@ chains_at file s bytes = err_map Read (hash_table file s bytes) >>= chains_in
 abbrev pub chains_within : ObjectFile → SectionHeader → Result (List ℕ) Fault → Result ChainsView Fault
 chains_within file s bytes = bytes >>= chains_at file s
 
--- if no more than this number of bytes are left to list
-abbrev pub chains_of : ObjectFile → ℕ → SectionHeader → Result ChainsView Fault
-chains_of file left s = chains_within file s (within left (content file s))
-
 -- of section k, or why its chains are not listed
 abbrev pub section_chains_said : ℕ → List ℕ → Result ChainsView Fault → List Said
 section_chains_said k name chains = given_said (Section k) (chains_said k name) chains
 
--- of section k, if it is a hash section
-abbrev pub section_chains_in : ObjectFile → ℕ → ℕ → SectionHeader → List Said
-section_chains_in file left k s =
-    if is_hash s then section_chains_said k (name_shown (known_names file) s) (chains_of file left s) else []
+-- of a hash section
+abbrev pub chains_of : ObjectFile → TypedSection → List Said
+chains_of file s =
+    section_chains_said s.number (name_shown (known_names file) s.header) (chains_within file s.header s.bytes)
 
-abbrev pub after_hash : ObjectFile → ℕ → SectionHeader → ℕ
-after_hash file left s = if is_hash s then left_after left (content file s) else left
-
--- The sections have at most as many bytes as the file, so bytes that many sections have are not listed over and over.
 abbrev pub said_of_chains : ObjectFile → List Said
-said_of_chains file = numbered_within (section_chains_in file) (after_hash file) file.size 0 file.sections
+said_of_chains file = flat_map (chains_of file) (sections_of file (SHT_HASH ∷ SHT_GNU_HASH ∷ []))

@@ -15,7 +15,7 @@ use Rattle.elf.specs.Data.{content, section_data}
 use Rattle.elf.specs.Names.{has_name}
 use Rattle.elf.specs.ObjectFile.{ObjectFile}
 use Rattle.nugwier_listing.specs.Headings.{heading_members, known_names, name_shown}
-use Rattle.nugwier_listing.specs.Notes.{left_after}
+use Rattle.nugwier_listing.specs.TypedSections.{left_after}
 use Rattle.nugwier_listing.specs.Read.{given_said}
 use Rattle.nugwier_report.specs.Contents.{compression_said, data_said, strings_said}
 use Rattle.nugwier_report.specs.Said.{Said, said_if, states, whole, wrong}

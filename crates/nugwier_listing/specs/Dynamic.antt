@@ -12,7 +12,7 @@ use Rattle.elf_dynamic.specs.dynamic_view.Entries.{entries_in}
 use Rattle.elf_linking.specs.Needed.{strings_by}
 use Rattle.elf_linking.specs.declared.needed.NamesError.{NamesError}
 use Rattle.elf_linking.specs.declared.needed.NamesError.TheVariants as error
-use Rattle.nugwier_listing.specs.Read.{answer_said, missing}
+use Rattle.nugwier_listing.specs.Read.{answer_said}
 use Rattle.nugwier_report.specs.Dynamic.{entry_said, needed_said}
 use Rattle.nugwier_report.specs.Said.{Said, numbered, states, whole, wrong}
 use Rattle.nugwier_report.specs.declared.kind.Kind.TheVariants.{EntriesHeading}
@@ -66,9 +66,8 @@ names_said (machine, entries, strings) = strings_missed strings ++ needed_if mac
 abbrev pub all_said : Result (Option Entries) ParseError → List Said
 all_said entries = answer_said Dynamic [] each_said entries
 
--- there have to be entries
 abbrev pub all_names_said : Result (Option Entries) ParseError → List Said
-all_names_said entries = answer_said Dynamic (missing Dynamic) names_said entries
+all_names_said entries = answer_said Dynamic [] names_said entries
 
 -- ---- of a file for a machine
 

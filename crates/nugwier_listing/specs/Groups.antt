@@ -1,7 +1,7 @@
 -- What is said of the section groups of a file.
-use Rattle.std.specs.Prelude.{ℕ, ◌==◌, if◌then◌else◌, List, [], Result, Ok, drop}
+use Rattle.std.specs.Prelude.{ℕ, List, [], ◌∷◌, Result, Ok, drop}
+use Rattle.std.specs.List.{flat_map}
 use Rattle.elf.specs.Answers.{symbols_of}
-use Rattle.elf.specs.Data.{content}
 use Rattle.elf.specs.ObjectFile.{ObjectFile, err_map, table_of}
 use Rattle.elf_abi.specs.declared.abi.TheConstants.{SHT_GROUP}
 use Rattle.elf_records.specs.Number.{number_at}
@@ -12,8 +12,8 @@ use Rattle.elf_records.specs.Word.{u32_reads}
 use Rattle.elf_records.specs.declared.parse.ParseError.{ParseError}
 use Rattle.elf_records.specs.declared.section.SectionHeader.{SectionHeader}
 use Rattle.nugwier_listing.specs.Headings.{known_names}
-use Rattle.nugwier_listing.specs.Notes.{left_after, numbered_within, within}
 use Rattle.nugwier_listing.specs.Read.{given_said}
+use Rattle.nugwier_listing.specs.TypedSections.{TypedSection, sections_of}
 use Rattle.nugwier_report.specs.Groups.{GroupView, group_said}
 use Rattle.nugwier_report.specs.Labels.{Named}
 use Rattle.nugwier_report.specs.Relocations.{symbol_name}
@@ -41,18 +41,13 @@ group_in named file s bytes = number_at file.little 4 bytes 0 >>= λ flags. Ok (
 abbrev pub group_of : Named → ObjectFile → SectionHeader → Result (List ℕ) Fault → Result GroupView Fault
 group_of named file s bytes = bytes >>= λ listed. err_map Read (group_in named file s listed)
 
--- of section k, if it is a group. Sections may share their bytes: no more bytes are listed than the file has
-abbrev pub groups_in : Named → ObjectFile → ℕ → ℕ → SectionHeader → List Said
-groups_in named file left k s =
-    if s.sh_type == SHT_GROUP then
-    given_said (Section k) (group_said named k) (group_of named file s (within left (content file s))) else []
-
--- how many bytes of groups are left to list after a section
-abbrev pub after_group : ObjectFile → ℕ → SectionHeader → ℕ
-after_group file left s = if s.sh_type == SHT_GROUP then left_after left (content file s) else left
+-- of a section that is a group
+abbrev pub section_group_said : Named → ObjectFile → TypedSection → List Said
+section_group_said named file s =
+    given_said (Section s.number) (group_said named s.number) (group_of named file s.header s.bytes)
 
 abbrev pub groups_said : Named → ObjectFile → List Said
-groups_said named file = numbered_within (groups_in named file) (after_group file) file.size 0 file.sections
+groups_said named file = flat_map (section_group_said named file) (sections_of file (SHT_GROUP ∷ []))
 
 abbrev pub said_of_groups : ObjectFile → List Said
 said_of_groups file = groups_said (record { sections = file.sections; names = known_names file }) file

@@ -21,6 +21,8 @@ pub mod Dynamic
 pub mod Headings
 -- the names that problems are told with
 pub mod Labels
+-- the sections of some types, each with its bytes
+pub mod TypedSections
 -- the relocations
 pub mod Relocations
 -- the section groups

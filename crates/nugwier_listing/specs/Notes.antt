@@ -1,24 +1,23 @@
 -- What is said of the notes of a file.
-use Rattle.std.specs.Prelude.{ℕ, ◌+◌, ◌-◌, ◌==◌, nat_lt, if◌then◌else◌, List, [], ◌∷◌, ◌++◌, length, Option, Some, None}
-use Rattle.std.specs.Prelude.{Result, Ok, Err, codes}
+use Rattle.std.specs.Prelude.{ℕ, ◌+◌, ◌==◌, nat_lt, if◌then◌else◌, List, [], ◌∷◌, ◌++◌, length, Option, Some, None}
+use Rattle.std.specs.Prelude.{Result, codes}
+use Rattle.std.specs.List.{flat_map}
 use Rattle.elf_abi.specs.Values.{pt_note, sht_note}
 use Rattle.elf_check.specs.Notes.{note_align, notes_end}
 use Rattle.elf_check.specs.declared.faults.SectionFault.TheVariants.{NoNote}
 use Rattle.elf_parts.specs.Note.{NoteContent, note_links, notes_in}
 use Rattle.elf_records.specs.Number.{ok_map}
-use Rattle.elf_records.specs.declared.parse.ParseError.{ParseError}
-use Rattle.elf_records.specs.declared.section.SectionHeader.{SectionHeader}
 use Rattle.elf_records.specs.declared.segment.ProgramHeader.{ProgramHeader}
 use Rattle.elf.specs.Answers.{segment_data}
-use Rattle.elf.specs.Data.{content}
 use Rattle.elf.specs.ObjectFile.{ObjectFile}
 use Rattle.nugwier_listing.specs.Headings.{heading_members, known_names, name_shown}
 use Rattle.nugwier_listing.specs.Read.{given_said}
+use Rattle.nugwier_listing.specs.TypedSections.{TypedSection, left_after, sections_of, within}
 use Rattle.nugwier_report.specs.Notes.{notes_said}
 use Rattle.nugwier_report.specs.Said.{Members, Said, number, said_if, states, whole, wrong}
 use Rattle.nugwier_report.specs.declared.kind.Kind.TheVariants.{SectionNotesHeading, SegmentNotesHeading}
 use Rattle.nugwier_report.specs.declared.problem.Fault.{Fault}
-use Rattle.nugwier_report.specs.declared.problem.Fault.TheVariants.{Read, Repeated, Section as OfSection}
+use Rattle.nugwier_report.specs.declared.problem.Fault.TheVariants.{Section as OfSection}
 use Rattle.nugwier_report.specs.declared.problem.Part.{Part}
 use Rattle.nugwier_report.specs.declared.problem.Part.TheVariants.{Section, Segment}
 use Rattle.nugwier_report.specs.declared.properties.NoteFile.{NoteFile}
@@ -51,24 +50,6 @@ end_said part offset = wrong (whole part) (OfSection (NoNote offset)) ∷ []
 abbrev pub list_said : Part → NoteList → List Said
 list_said part list = notes_said list.file part list.notes ++ said_if (end_said part) list.end
 
--- ---- how many are listed
-
--- The notes of all parts have at most as many bytes as the file, so notes that many parts have are not listed over and
--- over. Bytes, if no more than this number are left to list:
-abbrev pub within : ℕ → Result (List ℕ) ParseError → Result (List ℕ) Fault
-within left (Ok bytes) = if nat_lt left (length bytes) then Err Repeated else Ok bytes
-within left (Err e) = Err (Read e)
-
--- how many may be listed after them
-abbrev pub left_after : ℕ → Result (List ℕ) ParseError → ℕ
-left_after left (Ok bytes) = left - length bytes
-left_after left (Err e) = left
-
--- of items that are numbered from k, each with what is left for it
-abbrev pub numbered_within : {X Y : Type 0} → (ℕ → ℕ → X → List Y) → (ℕ → X → ℕ) → ℕ → ℕ → List X → List Y
-numbered_within said after left k [] = []
-numbered_within said after left k (x ∷ xs) = said left k x ++ numbered_within said after (after left x) (k + 1) xs
-
 -- ---- what is said
 
 -- a heading, and the notes of section k, or why they are not listed
@@ -84,16 +65,13 @@ abbrev pub segment_notes_said : ℕ → Result NoteList Fault → List Said
 segment_notes_said k notes =
     states SegmentNotesHeading (segment_members k) ∷ given_said (Segment k) (list_said (Segment k)) notes
 
--- of section k of a file for this machine, if it has notes
-abbrev pub section_notes_in : ℕ → ObjectFile → ℕ → ℕ → SectionHeader → List Said
-section_notes_in machine file left k s =
-    if s.sh_type == sht_note
-    then section_notes_said k (name_shown (known_names file) s)
-    (ok_map (note_list (note_file machine file) s.sh_addralign) (within left (content file s))) else []
+-- of a section of a file for this machine that has notes
+abbrev pub notes_of_section : ℕ → ObjectFile → TypedSection → List Said
+notes_of_section machine file s =
+    section_notes_said s.number (name_shown (known_names file) s.header)
+    (ok_map (note_list (note_file machine file) s.header.sh_addralign) s.bytes)
 
-abbrev pub after_section : ObjectFile → ℕ → SectionHeader → ℕ
-after_section file left s = if s.sh_type == sht_note then left_after left (content file s) else left
-
+-- of segment k, if it has notes
 abbrev pub segment_notes_in : ℕ → ObjectFile → ℕ → ℕ → ProgramHeader → List Said
 segment_notes_in machine file left k p =
     if p.p_type == pt_note
@@ -103,13 +81,18 @@ segment_notes_in machine file left k p =
 abbrev pub after_segment : ObjectFile → ℕ → ProgramHeader → ℕ
 after_segment file left p = if p.p_type == pt_note then left_after left (segment_data file p) else left
 
+-- Of segments with the numbers from k on, while this number of bytes are left to list: segments may share their bytes
+-- as sections do.
+abbrev pub notes_of_segments : ℕ → ObjectFile → ℕ → ℕ → List ProgramHeader → List Said
+notes_of_segments machine file left k [] = []
+notes_of_segments machine file left k (p ∷ segments) =
+    segment_notes_in machine file left k p ++ notes_of_segments machine file (after_segment file left p) (k + 1) segments
+
 abbrev pub said_of_note_sections : ℕ → ObjectFile → List Said
-said_of_note_sections machine file =
-    numbered_within (section_notes_in machine file) (after_section file) file.size 0 file.sections
+said_of_note_sections machine file = flat_map (notes_of_section machine file) (sections_of file (sht_note ∷ []))
 
 abbrev pub said_of_note_segments : ℕ → ObjectFile → List Said
-said_of_note_segments machine file =
-    numbered_within (segment_notes_in machine file) (after_segment file) file.size 0 file.segments
+said_of_note_segments machine file = notes_of_segments machine file file.size 0 file.segments
 
 -- of the sections or, if none are declared, of the segments
 abbrev pub said_of_notes : ℕ → ObjectFile → List Said

@@ -1,6 +1,6 @@
 -- What is said of the relocations of a file.
 use Rattle.std.specs.Prelude.{ℕ, ◌==◌, ◌||◌, Bool, true, if◌then◌else◌, List, [], ◌∷◌, ◌++◌, Option, Some, None, Result, Ok}
-use Rattle.std.specs.Prelude.{Err, codes}
+use Rattle.std.specs.Prelude.{Err, codes, map}
 use Rattle.std.specs.List.{flat_map}
 use Rattle.std.specs.Option.{option_map}
 use Rattle.elf_abi.specs.Values.{sht_dynsym, sht_rel, sht_rela, sht_symtab}
@@ -20,12 +20,11 @@ use Rattle.elf_records.specs.declared.relocation.Rel.{Rel}
 use Rattle.elf_records.specs.declared.relocation.Rela.{Rela}
 use Rattle.elf_records.specs.declared.section.SectionHeader.{SectionHeader}
 use Rattle.elf.specs.Answers.{section_data_as_relas, section_data_as_rels, symbols_of}
-use Rattle.elf.specs.Data.{content}
 use Rattle.elf.specs.ObjectFile.{ObjectFile, err_map, table_of}
 use Rattle.nugwier_listing.specs.Headings.{heading_members, known_names, name_shown}
 use Rattle.nugwier_listing.specs.Linked.{linked_versions, symbols_by}
-use Rattle.nugwier_listing.specs.Notes.{left_after, numbered_within, within}
 use Rattle.nugwier_listing.specs.Read.{fault_said, given_said, if_read}
+use Rattle.nugwier_listing.specs.TypedSections.{TypedSection, sections_of}
 use Rattle.nugwier_report.specs.Parts.{tag_name}
 use Rattle.nugwier_report.specs.Labels.{Named}
 use Rattle.nugwier_report.specs.Relocations.{Used, rel_fields, rela_fields, relative_said, relocation_said}
@@ -85,31 +84,20 @@ records_of file s =
     else if s.sh_type == sht_relr then ok_map relative_in (section_data_as_relr file s)
     else ok_map relas (section_data_as_relas file s)
 
-abbrev pub are_relocations : SectionHeader → Bool
-are_relocations s = s.sh_type == sht_rel || s.sh_type == sht_rela || s.sh_type == sht_relr
-
 -- the same, if its bytes are listed
 abbrev pub records_if : ObjectFile → SectionHeader → Result (List ℕ) Fault → Result Records Fault
 records_if file s bytes = bytes >>= λ listed. err_map Read (records_of file s)
 
-abbrev pub section_relocations : ObjectFile → Result (List ℕ) Fault → ℕ → SectionHeader → PlacedRelocations
-section_relocations file bytes k s = record {
-  place = in_section k (name_shown (known_names file) s);
-  symbols = err_map Read (section_symbols file s.sh_link);
-  records = records_if file s bytes;
+abbrev pub section_relocations : ObjectFile → TypedSection → PlacedRelocations
+section_relocations file s = record {
+  place = in_section s.number (name_shown (known_names file) s.header);
+  symbols = err_map Read (section_symbols file s.header.sh_link);
+  records = records_if file s.header s.bytes;
 }
-
--- those of section k, if it has any. Sections may share their bytes: no more bytes are listed than the file has
-unfoldable pub relocations_in : ObjectFile → ℕ → ℕ → SectionHeader → List PlacedRelocations
-relocations_in file left k s = if are_relocations s then section_relocations file (within left (content file s)) k s ∷ [] else []
-
--- how many bytes of relocations are left to list after a section
-abbrev pub after_relocations : ObjectFile → ℕ → SectionHeader → ℕ
-after_relocations file left s = if are_relocations s then left_after left (content file s) else left
 
 -- those of all sections
 abbrev pub sections_relocations : ObjectFile → List PlacedRelocations
-sections_relocations file = numbered_within (relocations_in file) (after_relocations file) file.size 0 file.sections
+sections_relocations file = map (section_relocations file) (sections_of file (sht_rel ∷ sht_rela ∷ sht_relr ∷ []))
 
 -- ---- of a file without section headers, by its dynamic entries
 

@@ -1,7 +1,7 @@
 -- What is said of the versions that a file defines, and of those that it needs of other files.
-use Rattle.std.specs.Prelude.{ℕ, ◌==◌, ◌||◌, nat_le, Bool, true, false, if◌then◌else◌, List, [], ◌∷◌, length}
+use Rattle.std.specs.Prelude.{ℕ, ◌==◌, nat_le, Bool, true, false, if◌then◌else◌, List, [], ◌∷◌, length}
 use Rattle.std.specs.Prelude.{Result, Ok, Err}
-use Rattle.std.specs.List.{sum_by}
+use Rattle.std.specs.List.{flat_map, sum_by}
 use Rattle.elf_abi.specs.Values.{sht_gnu_verdef, sht_gnu_verneed}
 use Rattle.elf_parts.specs.gnu_symver.Lists.{ver_defs, ver_needs}
 use Rattle.elf_parts.specs.declared.gnu_symver.records.VerDef.{VerDef}
@@ -15,8 +15,8 @@ use Rattle.elf_records.specs.declared.section.SectionHeader.{SectionHeader}
 use Rattle.elf.specs.Data.{content}
 use Rattle.elf.specs.ObjectFile.{ObjectFile, err_map}
 use Rattle.nugwier_listing.specs.Headings.{heading_members, known_names, name_shown}
-use Rattle.nugwier_listing.specs.Notes.{left_after, numbered_within, within}
 use Rattle.nugwier_listing.specs.Read.{given_said}
+use Rattle.nugwier_listing.specs.TypedSections.{TypedSection, sections_of}
 use Rattle.nugwier_report.specs.Said.{Said, states}
 use Rattle.nugwier_report.specs.VersionRecords.{definitions_said, needs_said}
 use Rattle.nugwier_report.specs.declared.kind.Kind.{Kind}
@@ -34,9 +34,6 @@ pub data Records : Type 0 where
 
 abbrev pub is_defining : SectionHeader → Bool
 is_defining s = s.sh_type == sht_gnu_verdef
-
-abbrev pub has_versions : SectionHeader → Bool
-has_versions s = is_defining s || s.sh_type == sht_gnu_verneed
 
 -- those in the bytes of section s; sh_info is their number
 abbrev pub records_in : SectionHeader → Table → Records
@@ -83,16 +80,12 @@ abbrev pub section_said : ℕ → List ℕ → Bool → Result (Records × List 
 section_said k name defining found =
     states (heading_of defining) (heading_members k name) ∷ given_said (Section k) (records_said k) found
 
--- of section k, if it defines or needs versions. Sections may share their bytes: no more are listed than the file has
-abbrev pub versions_in : ObjectFile → ℕ → ℕ → SectionHeader → List Said
-versions_in file left k s =
-    if has_versions s then
-    section_said k (name_shown (known_names file) s) (is_defining s) (versions_of file s (within left (content file s)))
-    else []
-
--- how many bytes of versions are left to list after a section
-abbrev pub after_versions : ObjectFile → ℕ → SectionHeader → ℕ
-after_versions file left s = if has_versions s then left_after left (content file s) else left
+-- of a section that defines or needs versions
+abbrev pub section_versions_said : ObjectFile → TypedSection → List Said
+section_versions_said file s =
+    section_said s.number (name_shown (known_names file) s.header) (is_defining s.header)
+    (versions_of file s.header s.bytes)
 
 abbrev pub said_of_version_lists : ObjectFile → List Said
-said_of_version_lists file = numbered_within (versions_in file) (after_versions file) file.size 0 file.sections
+said_of_version_lists file =
+    flat_map (section_versions_said file) (sections_of file (sht_gnu_verdef ∷ sht_gnu_verneed ∷ []))

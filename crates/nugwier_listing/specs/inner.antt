@@ -10,6 +10,8 @@ pub mod Symbols
 pub mod Dynamic
 -- the relocations that were taken
 pub mod Relocations
+-- the sections of some types that were taken
+pub mod TypedSections
 -- the section groups that were taken
 pub mod Groups
 -- the chains of hash sections that were taken

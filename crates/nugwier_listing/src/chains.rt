@@ -1,15 +1,15 @@
 //! The chains of hash sections.
-ghost use Rattle.std.specs.Prelude.{◌≡◌, ◌<◌, ◌≤◌, ◌^◌, ◌++◌, [], sum, IfOk, OnOk};
+ghost use Rattle.std.specs.Prelude.{◌≡◌, ◌<◌, ◌≤◌, ◌^◌, [], sum, IfOk, OnOk};
 ghost use Rattle.std.specs.List.{flat_map};
 ghost use Rattle.elf.specs.ObjectFile.{err_map};
 ghost use Rattle.elf_parts.specs.Hash.{word_at};
 ghost use Rattle.elf_records.specs.Number.{ok_map};
 ghost use Rattle.elf_records.specs.Table.{table_view};
-ghost use Rattle.nugwier_listing.specs.Chains.{after_hash, all_lengths, buckets_of, chain_length, chain_words_of};
+ghost use Rattle.nugwier_listing.specs.Chains.{all_lengths, buckets_of, chain_length, chain_words_of};
 ghost use Rattle.nugwier_listing.specs.Chains.{chains_at, chains_by, chains_in, chains_within, counted_after};
 ghost use Rattle.nugwier_listing.specs.Chains.{counts_from, gnu_length};
-ghost use Rattle.nugwier_listing.specs.Chains.{hash_table, hash_view, is_hash, one_more, said_of_chains};
-ghost use Rattle.nugwier_listing.specs.Chains.{section_chains_in, sysv_length, word_read};
+ghost use Rattle.nugwier_listing.specs.Chains.{hash_table, hash_view, one_more, said_of_chains};
+ghost use Rattle.nugwier_listing.specs.Chains.{sysv_length, word_read};
 ghost use Rattle.nugwier_listing.specs.Headings.{known_names};
 ghost use Rattle.nugwier_listing.specs.Whole.{file_of};
 ghost use Rattle.nugwier_listing.specs.inner.Chains.{part_said, symbols_in};
@@ -17,17 +17,15 @@ ghost use Rattle.nugwier_report.specs.Chains.{chains_view};
 
 use crate::headings::{known_names, name_shown};
 use crate::listed::ListedFile;
-use crate::notes::{left_after, within};
 use crate::parts::TakenPart;
-use crate::taking;
 use crate::taking::NotTaken;
+use crate::typed_sections::{HASH_TYPES, TypedSection, sections_of};
 use elf::endian::EndianParse;
 use elf::hash::{GnuHashTable, SysVHashTable};
 use elf::headers::Headers;
 use elf::parse::ParsingTable;
 use elf::reader::Reader;
 use elf::section::SectionHeader;
-use elf::string_table::TerminatedStrings;
 use elf::{ParseError, abi};
 use nugwier_report::chains::{ChainCount, Chains, say_chains};
 use nugwier_report::problem::{Fault, Part, Stop};
@@ -79,50 +77,21 @@ pub(crate) fn take_chains<'f, E: EndianParse, R: ListedFile<E>>(
 {
     let names = known_names(file)?;
     let mut parts = Vec::new(alloc);
-    let mut left = file.size();
-    let mut number = 0;
-    for section in file.section_list() {
-        left = add_section(alloc, file, &names, left, number, section, &mut parts)?;
-        number += 1;
+    for section in sections_of(alloc, file, &HASH_TYPES)? {
+        let TypedSection {
+            number,
+            header,
+            bytes,
+        } = section;
+        let chains = chains_within(alloc, file, &header, bytes)?;
+        let name = name_shown(&names, &header);
+        parts.push(ChainsPart {
+            number,
+            name,
+            chains,
+        })?;
     }
     Ok(parts)
-}
-
-// Takes the chains of a section, if it is a hash section, and adds them. Returns how many bytes may follow.
-fn add_section<'f, E: EndianParse, R: ListedFile<E>>(
-    alloc: Global,
-    file: &'f R,
-    names: &Option<TerminatedStrings<'f>>,
-    left: u64,
-    number: u64,
-    section: &SectionHeader,
-    parts: &mut Vec<ChainsPart<'f>>,
-) -> Result<u64, NotTaken>
-    ensures after { IfOk result (λ after. after
-        ≡ after_hash (file_of (R.file file.now) (R.bytes file.now)) left section.now) }
-    ensures taken { let whole = file_of (R.file file.now) (R.bytes file.now) in
-        names.now ≡ known_names whole → OnOk result (flat_map part_said parts.new.items
-        ≡ flat_map part_said parts.old.items ++ section_chains_in whole left number section.now) }
-{
-    if !is_hash(section) {
-        return Ok(left);
-    }
-    let bytes = taking::content(file, section)?;
-    let after = left_after(left, &bytes);
-    let chains = chains_within(alloc, file, section, within(left, bytes))?;
-    parts.push(ChainsPart {
-        number,
-        name: name_shown(names, section),
-        chains,
-    })?;
-    Ok(after)
-}
-
-/// Returns whether a section is a hash section (`SHT_HASH`, `SHT_GNU_HASH`).
-pub fn is_hash(section: &SectionHeader) -> bool
-    ensures { result ≡ is_hash section.now }
-{
-    section.sh_type == abi::SHT_HASH || section.sh_type == abi::SHT_GNU_HASH
 }
 
 // The chains of a section with these bytes, if they are listed.

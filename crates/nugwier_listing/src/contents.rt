@@ -8,7 +8,7 @@ ghost use Rattle.nugwier_listing.specs.Contents.{is_named, none_said, number_in,
 ghost use Rattle.nugwier_listing.specs.Contents.{said_of_contents};
 ghost use Rattle.nugwier_listing.specs.Contents.{section_of_number, sections_named, sections_of, sections_said};
 ghost use Rattle.nugwier_listing.specs.Contents.{wanted_said, within};
-ghost use Rattle.nugwier_listing.specs.Notes.{left_after};
+ghost use Rattle.nugwier_listing.specs.TypedSections.{left_after};
 ghost use Rattle.elf.specs.Names.{has_name};
 ghost use Rattle.elf.specs.Data.{content};
 ghost use Rattle.nugwier_listing.specs.Whole.{file_of};

@@ -72,7 +72,7 @@ pub(crate) fn say_entries<W: Write, V: Write>(
     }
 }
 
-/// Says the libraries that the entries name, and the search paths. It is wrong if there are no entries.
+/// Says the libraries that the entries name, if there are any, and the search paths.
 pub(crate) fn say_needed<W: Write, V: Write>(
     found: FoundEntries<'_>,
     report: &mut Report<'_, W, V>,
@@ -81,7 +81,7 @@ pub(crate) fn say_needed<W: Write, V: Write>(
 {
     match found {
         Ok(Some(entries)) => say_names(entries, report),
-        Ok(None) => report.problem(Part::Dynamic.whole(), Fault::Missing),
+        Ok(None) => Ok(()),
         Err(error) => report.problem(Part::Dynamic.whole(), Fault::Read(error)),
     }
 }

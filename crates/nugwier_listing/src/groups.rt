@@ -1,9 +1,9 @@
 //! The section groups of a file.
-ghost use Rattle.std.specs.Prelude.{◌≡◌, ◌++◌, IfOk, OnOk};
+ghost use Rattle.std.specs.Prelude.{◌≡◌, IfOk, OnOk};
 ghost use Rattle.std.specs.List.{flat_map};
 ghost use Rattle.elf.specs.Answers.{symbols_view};
 ghost use Rattle.elf_records.specs.Number.{ok_map};
-ghost use Rattle.nugwier_listing.specs.Groups.{after_group, group_in, group_of, groups_in, groups_said, said_of_groups};
+ghost use Rattle.nugwier_listing.specs.Groups.{group_in, group_of, groups_said, said_of_groups};
 ghost use Rattle.nugwier_listing.specs.Groups.{signature_in, signature_of};
 ghost use Rattle.nugwier_listing.specs.Whole.{file_of};
 ghost use Rattle.nugwier_listing.specs.inner.Groups.{part_said, tables_said};
@@ -12,16 +12,16 @@ ghost use Rattle.nugwier_report.specs.Labels.{named_by};
 ghost use Rattle.nugwier_report.specs.Said.{saying};
 
 use crate::listed::ListedFile;
-use crate::notes::{left_after, within};
 use crate::relocations::labels_of;
 use crate::taking;
 use crate::taking::{NotTaken, Symbols};
+use crate::typed_sections::{GROUP_TYPES, TypedSection, sections_of};
+use elf::ParseError;
 use elf::endian::EndianParse;
 use elf::headers::Headers;
 use elf::parse::ParsingIterator;
 use elf::section::SectionHeader;
 use elf::string_table::TerminatedStrings;
-use elf::{ParseError, abi};
 use nugwier_report::groups::{Group, say_group};
 use nugwier_report::names::Labels;
 use nugwier_report::problem::{Fault, Part, Stop};
@@ -67,38 +67,16 @@ fn take_sections<'f, E: EndianParse, R: ListedFile<E>>(
         ≡ groups_said (named_by labels.now) (file_of (R.file file.now) (R.bytes file.now))) }
 {
     let mut parts = Vec::new(alloc);
-    let mut left = file.size();
-    let mut number = 0;
-    for section in file.section_list() {
-        left = add_section(file, labels, left, number, section, &mut parts)?;
-        number += 1;
+    for section in sections_of(alloc, file, &GROUP_TYPES)? {
+        let TypedSection {
+            number,
+            header,
+            bytes,
+        } = section;
+        let group = take_group(file, labels, &header, bytes)?;
+        parts.push(GroupPart { number, group })?;
     }
     Ok(parts)
-}
-
-// Takes the group of a section, if it is one, and adds it. Returns how many bytes of groups may follow.
-fn add_section<'f, E: EndianParse, R: ListedFile<E>>(
-    file: &'f R,
-    labels: &Labels<'f>,
-    left: u64,
-    number: u64,
-    section: &SectionHeader,
-    parts: &mut Vec<GroupPart<'f, E>>,
-) -> Result<u64, NotTaken>
-    ensures after { IfOk result (λ after. after
-        ≡ after_group (file_of (R.file file.now) (R.bytes file.now)) left section.now) }
-    ensures taken { OnOk result (flat_map (part_said (named_by labels.now)) parts.new.items
-        ≡ flat_map (part_said (named_by labels.now)) parts.old.items
-        ++ groups_in (named_by labels.now) (file_of (R.file file.now) (R.bytes file.now)) left number section.now) }
-{
-    if section.sh_type != abi::SHT_GROUP {
-        return Ok(left);
-    }
-    let bytes = taking::content(file, section)?;
-    let after = left_after(left, &bytes);
-    let group = take_group(file, labels, section, within(left, bytes))?;
-    parts.push(GroupPart { number, group })?;
-    Ok(after)
 }
 
 fn take_group<'f, E: EndianParse, R: ListedFile<E>>(

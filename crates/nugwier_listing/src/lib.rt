@@ -3,7 +3,7 @@
 #![tactic(auto)]
 
 mod addresses;
-pub mod chains;
+mod chains;
 mod check;
 pub mod contents;
 mod dynamic;
@@ -25,4 +25,5 @@ mod sections;
 mod segments;
 mod symbols;
 pub mod taking;
+pub mod typed_sections;
 mod version_lists;

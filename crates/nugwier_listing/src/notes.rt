@@ -2,10 +2,9 @@
 ghost use Rattle.std.specs.Prelude.{◌≡◌, ◌++◌, IfOk, OnOk};
 ghost use Rattle.std.specs.List.{flat_map};
 ghost use Rattle.elf_records.specs.Number.{ok_map};
-ghost use Rattle.nugwier_listing.specs.Headings.{known_names};
-ghost use Rattle.nugwier_listing.specs.Notes.{after_section, after_segment, end_said, left_after, list_said, note_file};
+ghost use Rattle.nugwier_listing.specs.Notes.{after_segment, end_said, list_said, note_file};
 ghost use Rattle.nugwier_listing.specs.Notes.{note_list, said_of_note_sections, said_of_note_segments, said_of_notes};
-ghost use Rattle.nugwier_listing.specs.Notes.{section_notes_in, segment_members, segment_notes_in, within};
+ghost use Rattle.nugwier_listing.specs.Notes.{segment_members, segment_notes_in};
 ghost use Rattle.nugwier_listing.specs.Read.{given_said};
 ghost use Rattle.nugwier_listing.specs.Whole.{file_of};
 ghost use Rattle.nugwier_listing.specs.inner.Notes.{notes_view, part_said};
@@ -17,15 +16,14 @@ use crate::listed::ListedFile;
 use crate::parts::TakenPart;
 use crate::taking;
 use crate::taking::NotTaken;
+use crate::typed_sections::{NOTE_TYPES, TypedSection, left_after, sections_of, within};
+use elf::abi;
 use elf::endian::EndianParse;
 use elf::file::Class;
 use elf::headers::Headers;
 use elf::note::NoteIterator;
 use elf::reader::Reader;
-use elf::section::SectionHeader;
 use elf::segment::ProgramHeader;
-use elf::string_table::TerminatedStrings;
-use elf::{ParseError, abi};
 use elf_check::faults::SectionFault;
 use elf_check::notes::{first_no_note, note_align};
 use nugwier_report::json::{Member, Value};
@@ -93,39 +91,17 @@ fn take_sections<'f, E: EndianParse, R: ListedFile<E>>(
 {
     let names = known_names(file)?;
     let mut parts = Vec::new(alloc);
-    let mut left = file.size();
-    let mut number = 0;
-    for section in file.section_list() {
-        left = add_section(file, &names, left, number, section, &mut parts)?;
-        number += 1;
+    for section in sections_of(alloc, file, &NOTE_TYPES)? {
+        let TypedSection {
+            number,
+            header,
+            bytes,
+        } = section;
+        let notes = notes_of(note_file(file), header.sh_addralign, bytes);
+        let name = name_shown(&names, &header);
+        parts.push(NotePart::Section(number, name, notes))?;
     }
     Ok(parts)
-}
-
-// Takes the notes of a section, if it has any, and adds them. Returns how many bytes of notes may follow.
-fn add_section<'f, E: EndianParse, R: ListedFile<E>>(
-    file: &'f R,
-    names: &Option<TerminatedStrings<'f>>,
-    left: u64,
-    number: u64,
-    section: &SectionHeader,
-    parts: &mut Vec<NotePart<'f>>,
-) -> Result<u64, NotTaken>
-    ensures after { IfOk result (λ after. after
-        ≡ after_section (file_of (R.file file.now) (R.bytes file.now)) left section.now) }
-    ensures taken { let whole = file_of (R.file file.now) (R.bytes file.now) in
-        names.now ≡ known_names whole → OnOk result (flat_map part_said parts.new.items
-        ≡ flat_map part_said parts.old.items
-        ++ section_notes_in (R.header file.now).e_machine whole left number section.now) }
-{
-    if section.sh_type != abi::SHT_NOTE {
-        return Ok(left);
-    }
-    let bytes = taking::content(file, section)?;
-    let after = left_after(left, &bytes);
-    let notes = notes_of(note_file(file), section.sh_addralign, within(left, bytes));
-    parts.push(NotePart::Section(number, name_shown(names, section), notes))?;
-    Ok(after)
 }
 
 fn take_segments<'f, E: EndianParse, R: ListedFile<E>>(
@@ -167,30 +143,6 @@ fn add_segment<'f, E: EndianParse, R: ListedFile<E>>(
     let notes = notes_of(note_file(file), segment.p_align, within(left, bytes));
     parts.push(NotePart::Segment(number, notes))?;
     Ok(after)
-}
-
-/// Returns bytes, if no more than this number are left to list.
-pub(crate) fn within<'f>(
-    left: u64,
-    bytes: Result<&'f [u8], ParseError>,
-) -> Result<&'f [u8], Fault<'static>>
-    ensures { ok_map (λ bytes. bytes.now) result ≡ within left (ok_map (λ bytes. bytes.now) bytes.entry) }
-{
-    match bytes {
-        Ok(bytes) if left < bytes.len() as u64 => Err(Fault::Repeated),
-        Ok(bytes) => Ok(bytes),
-        Err(error) => Err(Fault::Read(error)),
-    }
-}
-
-/// Returns how many may be listed after them.
-pub(crate) fn left_after(left: u64, bytes: &Result<&[u8], ParseError>) -> u64
-    ensures { result ≡ left_after left (ok_map (λ bytes. bytes.now) bytes.now) }
-{
-    match bytes {
-        Ok(bytes) => left.saturating_sub(bytes.len() as u64),
-        Err(_) => left,
-    }
 }
 
 fn segment_members(number: u64) -> [Member<'static>; 1]

@@ -8,15 +8,16 @@ ghost use Rattle.elf_records.specs.Number.{ok_map};
 ghost use Rattle.elf_records.specs.Table.{table_view};
 ghost use Rattle.nugwier_listing.specs.Headings.{known_names};
 ghost use Rattle.nugwier_listing.specs.Read.{if_read};
-ghost use Rattle.nugwier_listing.specs.Relocations.{are_relocations, each_said, in_table, linked_table, machine_of};
-ghost use Rattle.nugwier_listing.specs.Relocations.{placed_said, records_of, records_said, relative_in, relocations_in};
-ghost use Rattle.nugwier_listing.specs.Relocations.{after_relocations, relocations_of, said_of_relocations};
+ghost use Rattle.nugwier_listing.specs.Relocations.{each_said, in_table, linked_table, machine_of};
+ghost use Rattle.nugwier_listing.specs.Relocations.{placed_said, records_of, records_said, relative_in};
+ghost use Rattle.nugwier_listing.specs.Relocations.{relocations_of, said_of_relocations};
 ghost use Rattle.nugwier_listing.specs.Relocations.{section_relocations, sections_relocations};
 ghost use Rattle.nugwier_listing.specs.Relocations.{section_symbols, symbols_if, symbols_unread, table_members};
 ghost use Rattle.nugwier_listing.specs.Relocations.{table_records, table_relocations, used_by};
 ghost use Rattle.nugwier_listing.specs.Whole.{file_of};
-ghost use Rattle.nugwier_listing.specs.inner.Relocations.{around_view, part_view, part_views, place_heading, place_part};
+ghost use Rattle.nugwier_listing.specs.inner.Relocations.{around_view, part_view, place_heading, place_part};
 ghost use Rattle.nugwier_listing.specs.inner.Relocations.{records_view, symbols_view, tables_said};
+ghost use Rattle.nugwier_listing.specs.inner.TypedSections.{section_view};
 ghost use Rattle.nugwier_report.specs.Labels.{named_by};
 ghost use Rattle.nugwier_report.specs.Noted.{members_said};
 ghost use Rattle.nugwier_report.specs.Relocations.{used_view};
@@ -26,9 +27,9 @@ ghost use Rattle.nugwier_report.specs.declared.problem.Fault.TheVariants.{Read a
 use crate::headings::{heading_members, known_names, name_shown};
 use crate::linked::FoundVersions;
 use crate::listed::ListedFile;
-use crate::notes::{left_after, within};
 use crate::symbols::known_versions;
 use crate::taking::NotTaken;
+use crate::typed_sections::{RELOCATION_TYPES, TypedSection, sections_of};
 use crate::{linked, taking};
 use elf::dynamic::DynamicTable;
 use elf::endian::EndianParse;
@@ -178,7 +179,6 @@ pub(crate) fn labels_of<'f, E: EndianParse, R: ListedFile<E>>(
 }
 
 // Takes the relocations of each section that has them; if the file declares no sections those that dynamic entries give.
-#[tactic(auto, using(crate::proofs::PartViews::views_listed))]
 fn take_found<'f, E: EndianParse, R: ListedFile<E>>(
     alloc: Global,
     file: &'f R,
@@ -440,76 +440,42 @@ fn take_sections<'f, E: EndianParse, R: ListedFile<E>>(
     alloc: Global,
     file: &'f R,
 ) -> Result<Vec<RelocationPart<'f, E>>, NotTaken>
-    ensures { IfOk result (λ parts. flat_map part_views parts.items
+    ensures { IfOk result (λ parts. map part_view parts.items
         ≡ sections_relocations (file_of (R.file file.now) (R.bytes file.now))) }
 {
     let names = known_names(file)?;
     let mut parts = Vec::new(alloc);
-    let mut left = file.size();
-    let mut number = 0;
-    for section in file.section_list() {
-        left = add_section(file, &names, left, number, section, &mut parts)?;
-        number += 1;
+    for section in sections_of(alloc, file, &RELOCATION_TYPES)? {
+        parts.push(take_part(file, &names, section)?)?;
     }
     Ok(parts)
-}
-
-// Takes the relocations of a section, if it has any, and adds them. Returns how many bytes of relocations may follow.
-#[tactic(auto, unfolding(crate::specs::Relocations::relocations_in))]
-fn add_section<'f, E: EndianParse, R: ListedFile<E>>(
-    file: &'f R,
-    names: &Option<TerminatedStrings<'f>>,
-    left: u64,
-    number: u64,
-    section: &SectionHeader,
-    parts: &mut Vec<RelocationPart<'f, E>>,
-) -> Result<u64, NotTaken>
-    ensures after { IfOk result (λ after. after
-        ≡ after_relocations (file_of (R.file file.now) (R.bytes file.now)) left section.now) }
-    ensures taken { let whole = file_of (R.file file.now) (R.bytes file.now) in
-        names.now ≡ known_names whole → OnOk result (flat_map part_views parts.new.items
-        ≡ flat_map part_views parts.old.items ++ relocations_in whole left number section.now) }
-{
-    if !are_relocations(section) {
-        return Ok(left);
-    }
-    let bytes = taking::content(file, section)?;
-    let after = left_after(left, &bytes);
-    let part = take_part(file, names, within(left, bytes), number, section)?;
-    parts.push(part)?;
-    Ok(after)
 }
 
 // The relocations of a section, if its bytes are listed.
 fn take_part<'f, E: EndianParse, R: ListedFile<E>>(
     file: &'f R,
     names: &Option<TerminatedStrings<'f>>,
-    bytes: Result<&'f [u8], Fault<'f>>,
-    number: u64,
-    section: &SectionHeader,
+    section: TypedSection<'f>,
 ) -> Result<RelocationPart<'f, E>, NotTaken>
     ensures { let whole = file_of (R.file file.now) (R.bytes file.now) in
         names.now ≡ known_names whole → IfOk result (λ part. part_view part
-        ≡ section_relocations whole (ok_map (λ bytes. bytes.now) bytes.entry) number section.now) }
+        ≡ section_relocations whole (section_view section.entry)) }
 {
-    let symbols = used_symbols(file, section.sh_link)?;
+    let TypedSection {
+        number,
+        header,
+        bytes,
+    } = section;
+    let symbols = used_symbols(file, header.sh_link)?;
     let records = match bytes {
-        Ok(_) => take_records(file, section)?,
+        Ok(_) => take_records(file, &header)?,
         Err(fault) => Err(fault),
     };
     Ok(RelocationPart {
-        place: RelocationPlace::Section(number, name_shown(names, section)),
+        place: RelocationPlace::Section(number, name_shown(names, &header)),
         symbols,
         records,
     })
-}
-
-// Whether the section has relocations, by its type.
-fn are_relocations(section: &SectionHeader) -> bool
-    ensures { result ≡ are_relocations section.now }
-{
-    let sh_type = section.sh_type;
-    sh_type == abi::SHT_REL || sh_type == abi::SHT_RELA || sh_type == SHT_RELR
 }
 
 // The symbols that the relocations of a section use, by the number of the section that it links to.

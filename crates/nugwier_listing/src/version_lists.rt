@@ -1,15 +1,13 @@
 //! The versions that a file defines, and those that it needs of other files.
-ghost use Rattle.std.specs.Prelude.{◌≡◌, ◌++◌, IfOk, OnOk};
+ghost use Rattle.std.specs.Prelude.{◌≡◌, IfOk, OnOk};
 ghost use Rattle.std.specs.List.{flat_map};
 ghost use Rattle.elf_records.specs.Number.{ok_map};
 ghost use Rattle.elf_records.specs.Table.{table_in};
-ghost use Rattle.nugwier_listing.specs.Headings.{known_names, name_shown};
 ghost use Rattle.nugwier_listing.specs.Read.{given_said};
 ghost use Rattle.elf_parts.specs.gnu_symver.Lists.{ver_def_aux_left, ver_defs_left, ver_need_aux_left, ver_needs_left};
-ghost use Rattle.nugwier_listing.specs.VersionLists.{after_versions, are_within, has_versions, heading_of, is_defining};
+ghost use Rattle.nugwier_listing.specs.VersionLists.{are_within, heading_of, is_defining};
 ghost use Rattle.nugwier_listing.specs.VersionLists.{linked_content, listed_in, records_in};
-ghost use Rattle.nugwier_listing.specs.VersionLists.{records_said, said_of_version_lists, section_said};
-ghost use Rattle.nugwier_listing.specs.VersionLists.{versions_in, versions_of};
+ghost use Rattle.nugwier_listing.specs.VersionLists.{records_said, said_of_version_lists, versions_of};
 ghost use Rattle.nugwier_listing.specs.Whole.{file_of};
 ghost use Rattle.nugwier_listing.specs.inner.VersionLists.{fits, left_of, part_said, records_view, versions_view};
 ghost use Rattle.nugwier_report.specs.Said.{saying};
@@ -17,10 +15,10 @@ ghost use Rattle.nugwier_report.specs.declared.problem.Part.TheVariants.{Section
 
 use crate::headings::{heading_members, known_names, name_shown};
 use crate::listed::ListedFile;
-use crate::notes::{left_after, within};
 use crate::parts::TakenPart;
 use crate::taking;
 use crate::taking::NotTaken;
+use crate::typed_sections::{TypedSection, VERSION_TYPES, sections_of};
 use elf::endian::EndianParse;
 use elf::file::Class;
 use elf::gnu_symver::{VerDefAuxIterator, VerDefIterator, VerNeedAuxIterator, VerNeedIterator};
@@ -83,65 +81,21 @@ pub(crate) fn take_version_lists<'f, E: EndianParse, R: ListedFile<E>>(
 {
     let names = known_names(file)?;
     let mut parts = Vec::new(alloc);
-    let mut left = file.size();
-    let mut number = 0;
-    for section in file.section_list() {
-        left = add_section(file, &names, left, number, section, &mut parts)?;
-        number += 1;
+    for section in sections_of(alloc, file, &VERSION_TYPES)? {
+        let TypedSection {
+            number,
+            header,
+            bytes,
+        } = section;
+        let versions = take_versions(file, &header, bytes)?;
+        parts.push(VersionPart {
+            number,
+            name: name_shown(&names, &header),
+            is_defining: is_defining(&header),
+            versions,
+        })?;
     }
     Ok(parts)
-}
-
-// Takes the versions of a section, if it has any, and adds them. Returns how many bytes of versions may follow.
-fn add_section<'f, E: EndianParse, R: ListedFile<E>>(
-    file: &'f R,
-    names: &Option<TerminatedStrings<'f>>,
-    left: u64,
-    number: u64,
-    section: &SectionHeader,
-    parts: &mut Vec<VersionPart<'f, E>>,
-) -> Result<u64, NotTaken>
-    ensures after { IfOk result (λ after. after
-        ≡ after_versions (file_of (R.file file.now) (R.bytes file.now)) left section.now) }
-    ensures taken { let whole = file_of (R.file file.now) (R.bytes file.now) in
-        names.now ≡ known_names whole → OnOk result (flat_map part_said parts.new.items
-        ≡ flat_map part_said parts.old.items ++ versions_in whole left number section.now) }
-{
-    if !has_versions(section) {
-        return Ok(left);
-    }
-    let bytes = taking::content(file, section)?;
-    let after = left_after(left, &bytes);
-    let part = take_part(file, names, within(left, bytes), number, section)?;
-    parts.push(part)?;
-    Ok(after)
-}
-
-fn take_part<'f, E: EndianParse, R: ListedFile<E>>(
-    file: &'f R,
-    names: &Option<TerminatedStrings<'f>>,
-    bytes: Result<&'f [u8], Fault<'static>>,
-    number: u64,
-    section: &SectionHeader,
-) -> Result<VersionPart<'f, E>, NotTaken>
-    ensures { IfOk result (λ part. part_said part ≡ section_said number (name_shown names.now section.now)
-        (is_defining section.now) (versions_of (file_of (R.file file.now) (R.bytes file.now)) section.now
-        (ok_map (λ bytes. bytes.now) bytes.entry))) }
-{
-    let versions = take_versions(file, section, bytes)?;
-    Ok(VersionPart {
-        number,
-        name: name_shown(names, section),
-        is_defining: is_defining(section),
-        versions,
-    })
-}
-
-// Whether a section defines or needs versions.
-fn has_versions(section: &SectionHeader) -> bool
-    ensures { result ≡ has_versions section.now }
-{
-    is_defining(section) || section.sh_type == abi::SHT_GNU_VERNEED
 }
 
 fn is_defining(section: &SectionHeader) -> bool

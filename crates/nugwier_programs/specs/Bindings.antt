@@ -57,11 +57,11 @@ pub data Opening : Type 0 where
   Refused : List ℕ → ParseError → Opening
   Loaded : OpenFile → Opening
 
-abbrev pub has_path : List ℕ → Opening → Type 0
-has_path path NoFile = ⊥
-has_path path (Gone own) = own ≡ path
-has_path path (Refused own e) = own ≡ path
-has_path path (Loaded file) = file.path ≡ path
+abbrev pub HasPath : List ℕ → Opening → Type 0
+HasPath path NoFile = ⊥
+HasPath path (Gone own) = own ≡ path
+HasPath path (Refused own e) = own ≡ path
+HasPath path (Loaded file) = file.path ≡ path
 
 -- by what its bytes are
 abbrev pub IsOpeningBy : Result (FileView AnyEndian) ParseError → Opening → Type 0
@@ -81,7 +81,7 @@ content_of known path (b ∷ bytes) = Some (Some (b ∷ bytes))
 abbrev pub IsOpeningIf : Known → Option Found → Opening → Type 0
 IsOpeningIf known None opening = opening ≡ NoFile
 IsOpeningIf known (Some found) opening =
-    has_path found.path opening
+    HasPath found.path opening
     × IfSome (content_of known found.path found.bytes) (λ content. IsOpeningOf content opening)
 
 abbrev pub IsOpening : Known → Entry → Opening → Type 0

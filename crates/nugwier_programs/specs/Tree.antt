@@ -90,21 +90,14 @@ Order = List Entry × List ℕ
 abbrev pub order_view : LoadOrder → Order
 order_view order = (map entry_view order.objects.items, order.scope.items)
 
--- the program with the libraries that it loads, in order, by what is opened of files with these contents
-abbrev pub Opened : Type 0
-Opened = (List ℕ → Option (List ℕ)) → List ℕ → Option Found
-
-abbrev pub AreOpenedIn : Opened → KnownFiles → Search → Found → Order → Type 0
-AreOpenedIn opened files search program order =
+-- the program with the libraries that it loads, in order, by their names alone
+abbrev pub AreNamedIn : KnownFiles → Search → Found → Order → Type 0
+AreNamedIn files search program order =
     (listed : List (List ℕ)) × AreListed files (is_some (cache_for files.contents search program.kind)) listed
-    × IsLoadOrder (opened files.contents) (others_of files.contents listed search program.kind) program order.0 order.1
+    × IsLoadOrder (opened_names files.contents) (others_of files.contents listed search program.kind) program order.0 order.1
 
-abbrev pub AreOpened : Opened → Known → Search → Found → Order → Type 0
-AreOpened opened known search program order = IfSome known (λ files. AreOpenedIn opened files search program order)
-
--- by their names alone
 abbrev pub AreNamedObjects : Known → Search → Found → Order → Type 0
-AreNamedObjects known search program order = AreOpened opened_names known search program order
+AreNamedObjects known search program order = IfSome known (λ files. AreNamedIn files search program order)
 
 -- ---- the order in which they are listed
 

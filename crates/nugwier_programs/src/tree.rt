@@ -1,18 +1,16 @@
 //! The libraries that a program loads.
-ghost use Rattle.std.specs.Prelude.{◌≡◌, ◌++◌, ℕ, List, Some, IfOk, IfSome, OnOk, map, slice_get};
+ghost use Rattle.std.specs.Prelude.{◌≡◌, ◌++◌, List, Some, IfOk, IfSome, OnOk, map, slice_get};
 ghost use Rattle.std.specs.List.{flat_map};
 ghost use Rattle.std.specs.Option.{option_copied, option_map};
 ghost use Rattle.std.specs.Vec.{vec_items};
-ghost use Rattle.std.specs.declared.option.Option.{Option};
 ghost use Rattle.elf_linking.specs.Cache.{cache_view};
-ghost use Rattle.elf_linking.specs.Tree.{Entry, Found, entry_view, file_of, found_view, loader_at};
-ghost use Rattle.nugwier_programs.specs.Tree.{AreNamedObjects, AreOpened, IsNamedSaid, IsProgram, IsTreeSaid};
+ghost use Rattle.elf_linking.specs.Tree.{Entry, entry_view, file_of, found_view, loader_at};
+ghost use Rattle.nugwier_programs.specs.Tree.{AreNamedObjects, IsNamedSaid, IsProgram, IsTreeSaid};
 ghost use Rattle.nugwier_programs.specs.Tree.{after_it, at_depth, cache_file, cache_in, entry_said, search_view};
 ghost use Rattle.nugwier_programs.specs.Tree.{first_needed};
 ghost use Rattle.nugwier_programs.specs.Tree.{is_needed_by, library_path, listed, listed_said, names_problem};
 ghost use Rattle.nugwier_programs.specs.Tree.{next_beside, order_view};
 ghost use Rattle.nugwier_programs.specs.Tree.{object_problem, object_problems, path_at, path_of, path_or_name};
-ghost use Rattle.nugwier_files.specs.Folder.{contents_known};
 ghost use Rattle.nugwier_programs.specs.inner.Walk.{AreFirsts, listed_view, stack_view, with_first};
 ghost use Rattle.nugwier_report.specs.Said.{Said, saying, unread, whole};
 ghost use Rattle.nugwier_report.specs.declared.problem.Part.TheVariants.{File};
@@ -23,7 +21,7 @@ use elf::endian::AnyEndian;
 use elf_linking::cache::{LibraryFlags, LinkerCache};
 use elf_linking::search::Surroundings;
 use elf_linking::tree::{
-    LoadOrder, LoadedFile, Object, OpenError, Opener, load_order, loader_at, object_at,
+    LoadOrder, LoadedFile, Object, OpenError, load_order, loader_at, object_at,
 };
 use nugwier_files::files::Files;
 use nugwier_files::named::NamedLibraries;
@@ -120,35 +118,6 @@ pub(crate) fn named_objects<F: Files>(
     ensures { IfOk result (λ order. AreNamedObjects (F.known files.now) (search_view search.entry) (found_view program)
         (order_view order)) }
 {
-    let opener = NamedLibraries { files };
-    opened_objects(alloc, search, files, &opener, program)
-}
-
-// The content of the linker's cache, if it counts and can be read.
-fn cache_file<F: Files>(search: Search<'_>, files: &F) -> Result<Option<Vec<u8>>, AllocError>
-    ensures { IfOk result (λ file. IfSome (F.known files.now)
-        (λ files. cache_file search.entry.has_cache files.contents ≡ option_map vec_items file)) }
-{
-    if search.has_cache {
-        files.has_libraries();
-        files.read_library(CACHE)
-    } else {
-        Ok(None)
-    }
-}
-
-// The program with the libraries that are opened so.
-fn opened_objects<F: Files, O: Opener>(
-    alloc: Global,
-    search: Search<'_>,
-    files: &F,
-    opener: &O,
-    program: LoadedFile,
-) -> Result<LoadOrder, AllocError>
-    ensures { IfOk result (λ order. (opened : (List ℕ → Option (List ℕ)) → List ℕ → Option Found)
-        → O.opened opener.now ≡ option_map opened (contents_known (F.known files.now))
-        → AreOpened opened (F.known files.now) (search_view search.entry) (found_view program) (order_view order)) }
-{
     let library_path = library_path(alloc, search.folders)?;
     let usual_folders = usual_folders(alloc, program.kind)?;
     let file = cache_file(search, files)?;
@@ -164,7 +133,20 @@ fn opened_objects<F: Files, O: Opener>(
         listed_folders: listed_folders.as_slice(),
         usual_folders: usual_folders.as_slice(),
     };
-    load_order(alloc, opener, &surroundings, program)
+    load_order(alloc, &NamedLibraries { files }, &surroundings, program)
+}
+
+// The content of the linker's cache, if it counts and can be read.
+fn cache_file<F: Files>(search: Search<'_>, files: &F) -> Result<Option<Vec<u8>>, AllocError>
+    ensures { IfOk result (λ file. IfSome (F.known files.now)
+        (λ files. cache_file search.entry.has_cache files.contents ≡ option_map vec_items file)) }
+{
+    if search.has_cache {
+        files.has_libraries();
+        files.read_library(CACHE)
+    } else {
+        Ok(None)
+    }
 }
 
 // The linker's cache in a file, if there is one that can be read.

@@ -110,6 +110,9 @@ fault_text fault.NoAddress = words (codes "no entry DT_STRTAB gives their addres
 fault_text fault.NoSize = words (codes "no entry DT_STRSZ gives their size")
 fault_text (fault.NotLoaded address) =
     words (codes "no segment of type PT_LOAD has them at 0x") ++? digits_of address
+fault_text (fault.PastEnd range size) =
+    words (codes "not in the file: bytes 0x") ++? digits_of range.0 ++? words (codes " to 0x") ++? digits_of range.1
+    ++? words (codes " of 0x") ++? digits_of size ++? words (codes "; it may be cut short")
 fault_text fault.NoSymbol = words (codes "no symbol starts there or before it")
 fault_text (fault.NoSection name) = words (codes "no section ") ++? quoted name
 fault_text fault.NeedsSection =

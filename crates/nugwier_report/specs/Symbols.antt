@@ -6,6 +6,7 @@ use Rattle.std.specs.Char.{to_ascii_uppercase}
 use Rattle.std.specs.List.{slice_get}
 use Rattle.std.specs.Result.{result_ok}
 use Rattle.elf_abi.specs.Names.{name_of}
+use Rattle.elf_abi.specs.declared.abi.TheConstants.{SHN_XINDEX}
 use Rattle.elf_abi.specs.SymbolNames.{st_bind_names, st_symtype_names, st_vis_names}
 use Rattle.elf_abi.specs.Values.{shn_abs, shn_undef, sht_nobits, stb_gnu_unique, stb_local, stb_weak, stt_common}
 use Rattle.elf_abi.specs.Values.{stt_func, stt_gnu_ifunc, stt_object, stt_tls}
@@ -36,7 +37,8 @@ use Rattle.nugwier_report.specs.declared.symbols.Form.TheVariants.{Export, Field
 abbrev pub st_shndx_name : ℕ → Option (List ℕ)
 st_shndx_name n =
     if n == shn_undef then Some (codes "SHN_UNDEF") else if n == shn_abs then Some (codes "SHN_ABS")
-    else if n == shn_common then Some (codes "SHN_COMMON") else None
+    else if n == shn_common then Some (codes "SHN_COMMON")
+    else if n == SHN_XINDEX then Some (codes "SHN_XINDEX") else None
 
 -- the type of the section that has the symbols
 abbrev pub table_name : Part → Option (List ℕ)

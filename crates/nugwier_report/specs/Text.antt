@@ -6,8 +6,9 @@ use Rattle.std.specs.Fmt.{decimal, digits, signed_decimal}
 use Rattle.std.specs.Hash.DefaultHasher.{wrapping_add}
 use Rattle.std.specs.Int.{div_ceil, to_be_bytes, w32, w64}
 use Rattle.std.specs.List.{after_first, before_first, flat_map, slice_get}
-use Rattle.std.specs.Str.{encode_utf8_all}
+use Rattle.std.specs.Str.{bytes_eq, encode_utf8_all}
 use Rattle.elf_abi.specs.Values.{elfdata2lsb}
+use Rattle.elf_abi.specs.declared.abi.TheConstants.{SHN_LORESERVE}
 use Rattle.elf_names.specs.Flags.{Flag, is_set}
 use Rattle.elfshow_lines.specs.Pieces.{◌⧺◌, hex, hex_of, newline}
 use Rattle.nugwier_report.specs.Escape.{shown_bytes}
@@ -19,6 +20,11 @@ use Rattle.nugwier_report.specs.declared.text.Shown.TheVariants as shows
 use Rattle.nugwier_report.specs.declared.text.TheConstants.{LETTERS, OTHER_FLAGS}
 
 -- ---- numbers
+
+-- the number that a value is, or 0
+abbrev pub number_in : Content → ℕ
+number_in (number n) = n
+number_in _ = 0
 
 abbrev pub shown_decimal : ℕ → ℕ → List ℕ
 shown_decimal width n = replicate (width - length (decimal n)) 32 ⧺ decimal n
@@ -130,10 +136,15 @@ shown_name skipped width _ n = shown_nameless width n
 abbrev pub right_of : ℕ → List ℕ → List ℕ
 right_of width name = replicate (width - length name) 32 ⧺ shown_bytes name
 
+-- from SHN_LORESERVE on a number is no section: it is shown in hexadecimal
+unfoldable pub index_number : ℕ → ℕ → List ℕ
+index_number width n =
+    if nat_lt n SHN_LORESERVE then shown_decimal width n else replicate (width - 6) 32 ⧺ hex n
+
 -- of SHN_UNDEF and its like the name without SHN_
 abbrev pub shown_index : ℕ → Content → Content → List ℕ
 shown_index width (word (Some name)) n = right_of width (drop 4 name)
-shown_index width _ n = shown_number (shows.Decimal width) n
+shown_index width _ n = index_number width (number_in n)
 
 -- a flag that is set, without the first bytes of its name
 abbrev pub shown_flag : ℕ → ℕ → Flag → List ℕ
@@ -170,6 +181,18 @@ abbrev pub shown_version : Content → Content → List ℕ
 shown_version (text (Some name)) is_default = at_signs is_default ⧺ shown_bytes name
 shown_version _ is_default = []
 
+-- whether two texts are the same, or there is neither
+abbrev pub same_text : Option (List ℕ) → Option (List ℕ) → Bool
+same_text (Some t) (Some other) = bytes_eq t other
+same_text None None = true
+same_text _ _ = false
+
+-- the version of a symbol that a reference with its own version is bound to, if it is another one
+unfoldable pub shown_target : Content → Content → Content → Content → List ℕ
+shown_target version name own is_default =
+    if same_text (text_in version) (text_in own) then []
+    else codes ": " ⧺ shown_text name ⧺ shown_version version is_default
+
 abbrev pub shown_character : Content → List ℕ
 shown_character (character (Some c)) = encode_utf8_all (c ∷ [])
 shown_character _ = codes "-"
@@ -199,10 +222,6 @@ bytes_in (bytes b) = b
 bytes_in _ = []
 
 -- the number that a value is, or 0
-abbrev pub number_in : Content → ℕ
-number_in (number n) = n
-number_in _ = 0
-
 -- the digits of the first four bytes, filled up with spaces, and a space
 abbrev pub dump_group : List ℕ → List ℕ
 dump_group part = hex_of (take 4 part) ⧺ replicate (2 * (4 - length part)) 32 ⧺ codes " "
@@ -260,6 +279,8 @@ module _ (is_wide : Bool) where
   shown shows.Text c members = shown_text c
   shown (shows.Padded width) c members = shown_padded width (text_in c)
   shown (shows.Version place) c members = shown_version c (content_at members place)
+  shown (shows.Target name own default) c members =
+      shown_target c (content_at members name) (content_at members own) (content_at members default)
   shown (shows.Flags count) c members = shown_flags count c
   shown shows.Character c members = shown_character c
   shown shows.Signed c members = shown_signed c

@@ -7,7 +7,8 @@ ghost use Rattle.nugwier_report.specs.Kinds.{is_heading, layout_of};
 use crate::text::Column;
 use crate::text::Shown::{
     Addend, Character, Decimal, Depth, Digits, Digits8, Digits16, Dump, Flags, Front, Hexadecimal,
-    Index, Name, Order, Padded, Pairs, Percent, SectionFlags, SegmentFlags, Signed, Text, Version,
+    Index, Name, Order, Padded, Pairs, Percent, SectionFlags, SegmentFlags, Signed, Target, Text,
+    Version,
 };
 
 /// A kind of record.
@@ -371,7 +372,7 @@ pub const SECTIONS_HEADING: Layout = (
     "\
 Sections (flags: W write, A alloc, X execute, M merge, S strings, I info,
 L link order, O of a system, G group, T thread, C compressed, R retain, l large, E exclude):
-  nr name               type          address          offset   size       es link info align flags
+  nr name               type             address          offset   size       es link info align flags
 ",
     &[],
 );
@@ -382,7 +383,7 @@ pub const SECTION: Layout = (
     &[
         Column(0, Decimal(4)),
         Column(2, Padded(18)),
-        Column(4, Name(4, 13, 3)),
+        Column(4, Name(4, 16, 3)),
         Column(7, Digits16),
         Column(8, Digits8),
         Column(9, Digits8),
@@ -415,7 +416,7 @@ pub const GROUP_MEMBER: Layout = (
 
 pub const SEGMENTS_HEADING: Layout = (
     None,
-    "Segments:\n  nr type          offset   address          physical address file size memory   flags align\n",
+    "Segments:\n  nr type             offset   address          physical address file size memory   flags align\n",
     &[],
 );
 
@@ -424,7 +425,7 @@ pub const SEGMENT: Layout = (
     "% % % % % %  % %   %\n",
     &[
         Column(0, Decimal(4)),
-        Column(2, Name(3, 13, 1)),
+        Column(2, Name(3, 16, 1)),
         Column(5, Digits8),
         Column(6, Digits16),
         Column(7, Digits16),
@@ -596,7 +597,7 @@ pub const EXPORT: Layout = (
 
 pub const ENTRIES_HEADING: Layout = (
     None,
-    "Dynamic entries:\n  nr tag             value, string\n",
+    "Dynamic entries:\n  nr tag               value, string\n",
     &[],
 );
 
@@ -605,7 +606,7 @@ pub const ENTRY: Layout = (
     "% % %\n",
     &[
         Column(0, Decimal(4)),
-        Column(2, Name(3, 15, 1)),
+        Column(2, Name(3, 17, 1)),
         Column(3, Hexadecimal),
     ],
 );
@@ -615,7 +616,7 @@ pub const NAMED_ENTRY: Layout = (
     "% % %  %\n",
     &[
         Column(0, Decimal(4)),
-        Column(2, Name(3, 15, 1)),
+        Column(2, Name(3, 17, 1)),
         Column(3, Hexadecimal),
         Column(5, Text),
     ],
@@ -627,7 +628,7 @@ pub const FLAGS_ENTRY: Layout = (
     "% % %%\n",
     &[
         Column(0, Decimal(4)),
-        Column(2, Name(3, 15, 1)),
+        Column(2, Name(3, 17, 1)),
         Column(3, Hexadecimal),
         Column(4, Flags(3)),
     ],
@@ -639,7 +640,7 @@ pub const FLAGS_1_ENTRY: Layout = (
     "% % %%\n",
     &[
         Column(0, Decimal(4)),
-        Column(2, Name(3, 15, 1)),
+        Column(2, Name(3, 17, 1)),
         Column(3, Hexadecimal),
         Column(4, Flags(5)),
     ],
@@ -954,17 +955,16 @@ pub const MISSING_LIBRARY: Layout = (
     &[Column(0, Depth), Column(1, Text)],
 );
 
-const BOUND_COLUMNS: [Column; 5] = [
+const BOUND_COLUMNS: [Column; 4] = [
     Column(2, Text),
     Column(3, Version(5)),
     Column(6, Text),
-    Column(2, Text),
-    Column(8, Version(9)),
+    Column(8, Target(2, 3, 9)),
 ];
 
-pub const BOUND: Layout = (Some("binding"), "%% => %: %%\n", &BOUND_COLUMNS);
+pub const BOUND: Layout = (Some("binding"), "%% => %%\n", &BOUND_COLUMNS);
 
-pub const BOUND_ADDRESS: Layout = (Some("binding"), "%% => %: %% (address)\n", &BOUND_COLUMNS);
+pub const BOUND_ADDRESS: Layout = (Some("binding"), "%% => %% (address)\n", &BOUND_COLUMNS);
 
 const UNBOUND_COLUMNS: [Column; 3] = [
     Column(2, Text),

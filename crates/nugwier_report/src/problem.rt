@@ -127,6 +127,8 @@ pub struct Place {
 pub enum Fault<'a> {
     /// It cannot be read.
     Read(ParseError),
+    /// The file has no bytes in this range, given by its start and its end, but this number of bytes.
+    PastEnd((usize, usize), usize),
     /// It is no ELF file.
     NotElf,
     /// It is no ELF file, but one of this format.
@@ -191,6 +193,10 @@ impl fmt::Display for Fault<'_> {
     fn fmt<W: fmt::Write>(&self, f: &mut fmt::Formatter<W>) -> fmt::Result {
         match self {
             Fault::Read(error) => write!(f, "{}", ReadText(error)),
+            Fault::PastEnd((start, end), len) => write!(
+                f,
+                "not in the file: bytes 0x{start:x} to 0x{end:x} of 0x{len:x}; it may be cut short"
+            ),
             Fault::NotElf => f.write_str("not an ELF file"),
             Fault::OtherFormat(name) => write!(f, "not an ELF file ({name})"),
             Fault::Linked(error) => write!(f, "{}", LinkedText(error)),

@@ -256,6 +256,7 @@ fn special_section(st_shndx: u16) -> Option<&'static str>
         abi::SHN_UNDEF => Some("SHN_UNDEF"),
         abi::SHN_ABS => Some("SHN_ABS"),
         abi::SHN_COMMON => Some("SHN_COMMON"),
+        abi::SHN_XINDEX => Some("SHN_XINDEX"),
         _ => None,
     }
 }

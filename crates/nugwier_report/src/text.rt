@@ -9,14 +9,14 @@ ghost use Rattle.elfshow_lines.specs.Adding.{Adds};
 ghost use Rattle.nugwier_report.specs.Noted.{content_of, members_said};
 ghost use Rattle.nugwier_report.specs.Text.{all_digits, ascii, ascii_text, at_signs, bytes_in, cell, content_at, dump};
 ghost use Rattle.nugwier_report.specs.Text.{dump_address, dump_characters, dump_columns, dump_group, dump_line, is_mark};
-ghost use Rattle.nugwier_report.specs.Text.{count_left_out, front_of, left_out};
+ghost use Rattle.nugwier_report.specs.Text.{count_left_out, front_of, index_number, left_out};
 ghost use Rattle.nugwier_report.specs.Text.{left_of, letters_of, nameless_number, nameless_signed, number_in, number_text};
 ghost use Rattle.nugwier_report.specs.Text.{other_flags};
 ghost use Rattle.nugwier_report.specs.Text.{row_text, section_letter, segment_flags, segment_letter, shown, shown_addend};
 ghost use Rattle.nugwier_report.specs.Text.{shown_character, shown_decimal, shown_flag, shown_flags, shown_index, shown_name, shown_nameless};
 ghost use Rattle.nugwier_report.specs.Text.{shown_front, shown_number, shown_order, shown_padded, shown_percent};
 ghost use Rattle.nugwier_report.specs.Text.{bold_if, framed, percent, shown_signed, shown_text, signed_hex, tenths};
-ghost use Rattle.nugwier_report.specs.Text.{shown_version, text_in, wide};
+ghost use Rattle.nugwier_report.specs.Text.{same_text, shown_target, shown_version, text_in, wide};
 
 use crate::escape::add_shown;
 use crate::json::{Member, Value};
@@ -68,6 +68,10 @@ pub enum Shown {
     /// A version after its symbol: `@NAME`, or `@@NAME` if the flag at this place says that it is the default one. A
     /// symbol without a version has nothing there.
     Version(usize),
+    /// The version of a symbol that a reference is bound to, if it is not that of the reference: `: NAME@VERSION`, or
+    /// `: NAME@@VERSION`. The places are those of the name, of the version of the reference, and of the flag that says
+    /// whether the version is the default one.
+    Target(usize, usize, usize),
     /// The names of the flags that are set, each after a space and without this number of bytes at its start.
     Flags(usize),
     /// A character.
@@ -213,6 +217,11 @@ fn add_value<W: Write>(
         Shown::Text => add_text(value, lines, out),
         Shown::Padded(width) => add_padded(width, value, lines, out),
         Shown::Version(flag) => add_version(value, value_at(members, flag), lines, out),
+        Shown::Target(name, own, flag) => {
+            let own = value_at(members, own);
+            let (name, flag) = (value_at(members, name), value_at(members, flag));
+            add_target(value, name, own, flag, lines, out);
+        }
         Shown::Flags(count) => add_flag_names(count, value, lines, out),
         Shown::Character => add_character(value, lines, out),
         Shown::Signed => add_signed(value, lines, out),
@@ -512,9 +521,25 @@ fn add_index<W: Write>(
             add_spaces(width.saturating_sub(name.len()), lines, out);
             add_shown(name, lines, out);
         }
-        _ => add_number(Shown::Decimal(width), number, lines, out),
+        _ => add_index_number(width, number_in(number), lines, out),
     }
 }
+
+// A number from SHN_LORESERVE on, which is no section, in hexadecimal.
+#[tactic(auto, unfolding(crate::specs::Text::index_number))]
+fn add_index_number<W: Write>(width: usize, n: u64, lines: &mut LineBuffer, out: &mut W)
+    ensures { Adds (W.contents out.old) lines.old (W.contents out.new) lines.new (index_number width n) }
+{
+    if n < abi::SHN_LORESERVE as u64 {
+        add_decimal(width, n, lines, out);
+    } else {
+        add_spaces(width.saturating_sub(RESERVED_LENGTH), lines, out);
+        lines.hex("", n, out);
+    }
+}
+
+// The length of `0xff00` and its like.
+const RESERVED_LENGTH: usize = 6;
 
 // ---- texts of the file
 
@@ -564,6 +589,39 @@ fn add_version<W: Write>(
             add_shown(name, lines, out);
         }
         _ => lines.text("", out),
+    }
+}
+
+// Whether two texts are the same, or there is neither.
+fn same_text(text: Option<&[u8]>, other: Option<&[u8]>) -> bool
+    ensures { result ≡ same_text (option_copied text.entry) (option_copied other.entry) }
+{
+    match (text, other) {
+        (Some(text), Some(other)) => text == other,
+        (None, None) => true,
+        _ => false,
+    }
+}
+
+#[tactic(auto, unfolding(crate::specs::Text::shown_target))]
+fn add_target<W: Write>(
+    version: Value<'_>,
+    name: Value<'_>,
+    own: Value<'_>,
+    is_default: Value<'_>,
+    lines: &mut LineBuffer,
+    out: &mut W,
+)
+    ensures { Adds (W.contents out.old) lines.old (W.contents out.new) lines.new
+        (shown_target (content_of version.entry) (content_of name.entry) (content_of own.entry)
+        (content_of is_default.entry)) }
+{
+    if same_text(text_in(version), text_in(own)) {
+        lines.text("", out);
+    } else {
+        lines.text(": ", out);
+        add_text(name, lines, out);
+        add_version(version, is_default, lines, out);
     }
 }
 

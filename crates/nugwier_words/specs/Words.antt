@@ -21,8 +21,10 @@ use Rattle.nugwier_words.specs.declared.asked.Awaited.{Awaited}
 use Rattle.nugwier_words.specs.declared.asked.Awaited.TheVariants.{Folder, Format as AwaitedFormat, Nothing}
 use Rattle.nugwier_words.specs.declared.asked.Awaited.TheVariants.{Requirements, Root}
 use Rattle.nugwier_words.specs.declared.asked.Awaited.TheVariants.{Section}
+use Rattle.nugwier_words.specs.declared.asked.General.{General}
+use Rattle.nugwier_words.specs.declared.asked.General.TheVariants.{Bold, Json, Plain, Recursive}
 use Rattle.nugwier_words.specs.declared.asked.Word.{Word}
-use Rattle.nugwier_words.specs.declared.asked.Word.TheVariants.{Bold, End, File, Help, Json, Options, Plain, Recursive}
+use Rattle.nugwier_words.specs.declared.asked.Word.TheVariants.{End, File, General as GeneralWord, Help, Options}
 use Rattle.nugwier_words.specs.declared.letters.Letters.{Letters}
 use Rattle.nugwier_words.specs.declared.words.AskedAddress.{AskedAddress}
 use Rattle.nugwier_words.specs.declared.words.Command.{Command}
@@ -133,12 +135,18 @@ commands =
 unfoldable pub command_of : List ℕ → Option Command
 command_of word = find (λ command. bytes_eq (word_of command) word) commands
 
--- one letter at the most is left out, added or changed
+-- the first two letters are the other way round, and all else is the same
+abbrev pub is_swapped : List ℕ → List ℕ → Bool
+is_swapped (a ∷ b ∷ rest) (c ∷ d ∷ others) = (a == d) && ((b == c) && bytes_eq rest others)
+is_swapped _ _ = false
+
+-- one letter at the most is left out, added or changed, or two that stand together are the other way round
 abbrev pub is_near : List ℕ → List ℕ → Bool
 is_near [] other = nat_lt (length other) 2
 is_near (c ∷ cs) [] = length cs == 0
 is_near (c ∷ cs) (d ∷ ds) =
-    if c == d then is_near cs ds else (bytes_eq cs ds || bytes_eq cs (d ∷ ds) || bytes_eq (c ∷ cs) ds)
+    if c == d then is_near cs ds
+    else (bytes_eq cs ds || bytes_eq cs (d ∷ ds) || bytes_eq (c ∷ cs) ds || is_swapped (c ∷ cs) (d ∷ ds))
 
 -- or a word begins another one
 abbrev pub is_like : List ℕ → List ℕ → Bool
@@ -311,16 +319,33 @@ nothing is_bold = record {
 abbrev pub is_file : List ℕ → Bool → Bool
 is_file word has_ended = has_ended || bytes_eq word (codes "-") || not (starts_with ◌==◌ word (codes "-"))
 
-abbrev pub kind_of : List ℕ → Bool → Word
-kind_of word has_ended =
+-- an option of every command
+abbrev pub general_of : List ℕ → Option General
+general_of word =
+    if bytes_eq word (codes "--json") then Some Json
+    else if bytes_eq word (codes "-R") || bytes_eq word (codes "--recursive") then Some Recursive
+    else if bytes_eq word (codes "--color=always") then Some Bold
+    else if bytes_eq word (codes "--color=never") then Some Plain
+    else None
+
+-- of `list`, -h is the file header
+abbrev pub has_help_letter : Command → Bool
+has_help_letter ListCommand = false
+has_help_letter other = true
+
+abbrev pub is_help : Command → List ℕ → Bool
+is_help command word = bytes_eq word (codes "--help") || (bytes_eq word (codes "-h") && has_help_letter command)
+
+abbrev pub kind_if : Option General → Word
+kind_if (Some option) = GeneralWord option
+kind_if None = Options
+
+abbrev pub kind_of : Command → List ℕ → Bool → Word
+kind_of command word has_ended =
     if is_file word has_ended then File
-    else if bytes_eq word (codes "--help") then Help
-    else if bytes_eq word (codes "--json") then Json
-    else if bytes_eq word (codes "-R") || bytes_eq word (codes "--recursive") then Recursive
-    else if bytes_eq word (codes "--color=always") then Bold
-    else if bytes_eq word (codes "--color=never") then Plain
+    else if is_help command word then Help
     else if bytes_eq word (codes "--") then End
-    else Options
+    else kind_if (general_of word)
 
 -- what a word does: the words after it are read too, or the help of the command is asked for, or it is wrong
 pub data Step : Type 0 where
@@ -476,13 +501,16 @@ with_options Bindings asked word = with_search Bindings asked word
 with_options Harden asked word = with_require asked word
 with_options other asked word = wrong (NotOption other word)
 
+abbrev pub with_general : General → SoFar → SoFar
+with_general Json asked = record asked { is_json = true }
+with_general Recursive asked = record asked { is_recursive = true }
+with_general Bold asked = record asked { is_bold = true }
+with_general Plain asked = record asked { is_bold = false }
+
 abbrev pub with_word : Word → Command → SoFar → Bor (List ℕ) → Step
 with_word File command asked word = next (record asked { files = asked.files ++ word ∷ [] })
 with_word Help command asked word = helps
-with_word Json command asked word = next (record asked { is_json = true })
-with_word Recursive command asked word = next (record asked { is_recursive = true })
-with_word Bold command asked word = next (record asked { is_bold = true })
-with_word Plain command asked word = next (record asked { is_bold = false })
+with_word (GeneralWord option) command asked word = next (with_general option asked)
 with_word End command asked word = next (record asked { has_ended = true })
 with_word Options command asked word = with_options command asked word
 
@@ -492,7 +520,7 @@ with_section form asked word =
 
 -- an option takes the next word, whatever it is
 abbrev pub step_for : Awaited → Command → SoFar → Bor (List ℕ) → Step
-step_for Nothing command asked word = with_word (kind_of word.now asked.has_ended) command asked word
+step_for Nothing command asked word = with_word (kind_of command word.now asked.has_ended) command asked word
 step_for (Section form option) command asked word = with_section form asked word
 step_for (Folder option) command asked word = with_folder asked word.now
 step_for (Root option) command asked word = with_root asked word.now
@@ -636,20 +664,26 @@ abbrev pub helped : List (Bor (List ℕ)) → Result Answer WordError
 helped [] = Ok (help None)
 helped (word ∷ words) = helped_for word (command_of word.now)
 
+abbrev pub parsed_for : SoFar → Bor (List ℕ) → Option Command → List (Bor (List ℕ)) → Result Answer WordError
+parsed_for asked first None words = Err (unknown first)
+parsed_for asked first (Some command) words = after command asked words
+
+-- by the first word that is no option of every command
+abbrev pub parsed_from : SoFar → Bor (List ℕ) → List (Bor (List ℕ)) → Result Answer WordError
+parsed_from asked first words =
+    if bytes_eq first.now (codes "--help") || bytes_eq first.now (codes "-h") then Ok (help None)
+    else if bytes_eq first.now (codes "--version") || bytes_eq first.now (codes "-V") then Ok version
+    else if bytes_eq first.now (codes "help") then helped words
+    else parsed_for asked first (command_of first.now) words
+
+-- what the words ask for, if what was before them asks for this
+abbrev pub parsed_with : SoFar → List (Bor (List ℕ)) → Result Answer WordError
+parsed_with asked [] = Err NoCommand
+parsed_with asked (first ∷ words) = elim (general_of first.now) [
+  | Some option ↦ parsed_with (with_general option asked) words
+  | None ↦ parsed_from asked first words
+]
+
 -- headings are bold or not, unless the words say something else
-module _ (is_bold : Bool) where
-  abbrev pub parsed_for : Bor (List ℕ) → Option Command → List (Bor (List ℕ)) → Result Answer WordError
-  parsed_for first None words = Err (unknown first)
-  parsed_for first (Some command) words = after command (nothing is_bold) words
-
-  -- by the first word
-  abbrev pub parsed_from : Bor (List ℕ) → List (Bor (List ℕ)) → Result Answer WordError
-  parsed_from first words =
-      if bytes_eq first.now (codes "--help") || bytes_eq first.now (codes "-h") then Ok (help None)
-      else if bytes_eq first.now (codes "--version") || bytes_eq first.now (codes "-V") then Ok version
-      else if bytes_eq first.now (codes "help") then helped words
-      else parsed_for first (command_of first.now) words
-
-  abbrev pub parsed : List (Bor (List ℕ)) → Result Answer WordError
-  parsed [] = Err NoCommand
-  parsed (first ∷ words) = parsed_from first words
+abbrev pub parsed : Bool → List (Bor (List ℕ)) → Result Answer WordError
+parsed is_bold words = parsed_with (nothing is_bold) words

@@ -1,8 +1,8 @@
 //! What the words after a command ask for, from left to right.
-ghost use Rattle.nugwier_words.specs.Words.{IsParsed, IsStep, answer_of, finished, format_of, has_part, kind_of};
+ghost use Rattle.nugwier_words.specs.Words.{IsParsed, IsStep, answer_of, finished, format_of, general_of, has_part, is_help, kind_of};
 ghost use Rattle.nugwier_words.specs.Words.{letters_of, with_format, with_symbols_word};
 ghost use Rattle.nugwier_words.specs.Words.{listed_parts, next, nothing, run_on, so_far, sought, step, wanted_view};
-ghost use Rattle.nugwier_words.specs.Words.{with_addresses, with_files, with_folder, with_form, with_given};
+ghost use Rattle.nugwier_words.specs.Words.{with_addresses, with_files, with_folder, with_form, with_general, with_given};
 ghost use Rattle.nugwier_words.specs.Words.{with_list_word, with_listed, with_options, with_requirements, with_root};
 ghost use Rattle.nugwier_words.specs.Words.{with_search, with_section, with_word, with_word_of};
 ghost use Rattle.std.specs.Prelude.{◌≡◌, Ok, drop, map, take};
@@ -17,14 +17,20 @@ use nugwier_report::symbol_options::SymbolOptions;
 use nugwier_report::text::Style;
 use std::alloc::Global;
 
-// What a word after the command is.
-enum Word {
-    File,
-    Help,
+// An option of every command, which may also stand before the command.
+#[derive(Clone, Copy)]
+pub(crate) enum General {
     Json,
     Recursive,
     Bold,
     Plain,
+}
+
+// What a word after the command is.
+enum Word {
+    File,
+    Help,
+    General(General),
     // After this word all are files.
     End,
     Options,
@@ -82,6 +88,18 @@ impl<'a> Asked<'a> {
             root: None,
             awaited: Awaited::Nothing,
             has_ended: false,
+        }
+    }
+
+    /// Adds an option of every command.
+    pub fn set(&mut self, option: General)
+        ensures { so_far self.new ≡ with_general option (so_far self.old) }
+    {
+        match option {
+            General::Json => self.is_json = true,
+            General::Recursive => self.is_recursive = true,
+            General::Bold => self.is_bold = true,
+            General::Plain => self.is_bold = false,
         }
     }
 
@@ -148,16 +166,13 @@ impl<'a> Asked<'a> {
 
     // A word that no option takes.
     fn add_word(&mut self, command: Command, word: &'a str) -> Result<bool, WordError<'a>>
-        ensures { let kind = kind_of word.now self.old.has_ended in
+        ensures { let kind = kind_of command word.now self.old.has_ended in
             IsStep (with_word kind command (so_far self.old) word.entry) (so_far self.new) result }
     {
-        match kind_of(word, self.has_ended) {
+        match kind_of(command, word, self.has_ended) {
             Word::File => self.files.push(word)?,
             Word::Help => return Ok(true),
-            Word::Json => self.is_json = true,
-            Word::Recursive => self.is_recursive = true,
-            Word::Bold => self.is_bold = true,
-            Word::Plain => self.is_bold = false,
+            Word::General(option) => self.set(option),
             Word::End => self.has_ended = true,
             Word::Options => return self.add_options(command, word),
         }
@@ -366,21 +381,42 @@ impl<'a> Asked<'a> {
     }
 }
 
+/// Returns the option of every command that a word is.
+pub(crate) fn general_of(word: &str) -> Option<General>
+    ensures { result ≡ general_of word.now }
+{
+    match word {
+        "--json" => Some(General::Json),
+        "-R" | "--recursive" => Some(General::Recursive),
+        "--color=always" => Some(General::Bold),
+        "--color=never" => Some(General::Plain),
+        _ => None,
+    }
+}
+
+// Whether a word asks for the help of a command: for `list`, `-h` is the file header.
+fn is_help(command: Command, word: &str) -> bool
+    ensures { result ≡ is_help command word.now }
+{
+    word == "--help" || word == "-h" && !matches!(command, Command::List)
+}
+
 // What a word is, if no option takes it. All words after `--` are files.
-fn kind_of(word: &str, has_ended: bool) -> Word
-    ensures { result ≡ kind_of word.now has_ended }
+fn kind_of(command: Command, word: &str, has_ended: bool) -> Word
+    ensures { result ≡ kind_of command word.now has_ended }
 {
     if has_ended || word == "-" || !word.as_bytes().starts_with(b"-") {
         return Word::File;
     }
-    match word {
-        "--help" => Word::Help,
-        "--json" => Word::Json,
-        "-R" | "--recursive" => Word::Recursive,
-        "--color=always" => Word::Bold,
-        "--color=never" => Word::Plain,
-        "--" => Word::End,
-        _ => Word::Options,
+    if is_help(command, word) {
+        return Word::Help;
+    }
+    if word == "--" {
+        return Word::End;
+    }
+    match general_of(word) {
+        Some(option) => Word::General(option),
+        None => Word::Options,
     }
 }
 

@@ -24,12 +24,15 @@ usage: nugwier COMMAND [OPTION..] FILE..
   tree        the libraries that a program loads, and the files that are found for them
   bindings    what the symbols of a program and of its libraries bind to
 
-  COMMAND --help    how the command is called, also help COMMAND
-  COMMAND --json    an object of JSON for each record, one a line, in place of lines for people
-  COMMAND -R        of a FILE that is a folder, the ELF files below it (or --recursive)
-  COMMAND --color=always, --color=never
+  COMMAND --help    how the command is called, also help COMMAND and, except for list, COMMAND -h
+  --json            an object of JSON for each record, one a line, in place of lines for people
+  -R, --recursive   of a FILE that is a folder, the ELF files below it
+  --color=always, --color=never
                     bold headings, or none; without these, bold on a terminal, unless NO_COLOR is set
-  --version         the version of nugwier
+  -h, --help        this text
+  -V, --version     the version of nugwier
+
+--json, -R and --color may stand before the command or after it.
 
 FILE is a path, or - for standard input. Of several files each has a heading. What cannot be read is told on
 standard error with the file's name, and the rest is still listed.
@@ -184,10 +187,11 @@ Prints what the symbols of a program and of the libraries that it loads bind to,
 Nothing is run. The libraries are those of tree, with the same options. Under the path of each file there is a line for
 each symbol that another file has to define, and for each that is copied into the program:
 
-  NAME@VERSION => PATH: NAME@@VERSION   the file that has the symbol, with the version there
-  NAME@VERSION => weak                  no file has it, and it may be missing
-  NAME@VERSION => missing               no file has it
-  NAME@VERSION => unknown               a version that decides it cannot be read
+  NAME@VERSION => PATH          the file that has the symbol
+  NAME => PATH: NAME@@VERSION   the same, with the version there, which is another one
+  NAME@VERSION => weak          no file has it, and it may be missing
+  NAME@VERSION => missing       no file has it
+  NAME@VERSION => unknown       a version that decides it cannot be read
 
 If the calls of a function go elsewhere than to its address, the address has a second line, with (address) at its end.
 With --json each kind of reference has an object. What is missing or unknown is told on standard error, too.";

@@ -1,10 +1,10 @@
 //! What the words of a command line ask for.
-ghost use Rattle.nugwier_words.specs.Words.{IsParsed, after, command_of, helped, is_like, is_near, nearest, nothing};
-ghost use Rattle.nugwier_words.specs.Words.{parsed, parsed_from, parts_all, word_of};
+ghost use Rattle.nugwier_words.specs.Words.{IsParsed, after, command_of, helped, is_like, is_near, is_swapped, nearest};
+ghost use Rattle.nugwier_words.specs.Words.{parsed, parsed_from, parts_all, so_far, word_of};
 ghost use Rattle.nugwier_words.specs.declared.words.WordError.TheVariants.{Memory as IsMemory};
 ghost use Rattle.std.specs.Prelude.{◌≡◌};
 
-use crate::asked::Asked;
+use crate::asked::{Asked, general_of};
 use nugwier_report::escape::Escaped;
 use nugwier_report::hardening::Requirement;
 use nugwier_report::report::Format;
@@ -306,7 +306,8 @@ impl<'a, T: Drop> From<AllocFailed<T>> for WordError<'a> {
 /// Returns what the words, the arguments after the program's name, ask for. Headings are bold if this is said here,
 /// unless the words say something else.
 ///
-/// Errors, in order: `NoCommand` without words; `Command` if the first word, or the one after `help`, is no command;
+/// Errors, in order: `NoCommand` if no word but options of every command is there; `Command` if the first other word, or
+/// the one after `help`, is no command;
 /// then, of the first word that is wrong, `Option`, `Requirement`, `Format`, `NoSection`, `NoFolder`, `NoList` or
 /// `NoFormat`; `NoFile` if no word is a file; of `address`, `Address` for the first word after the file that is no
 /// address, and `NoAddress` if there is no such word.
@@ -318,26 +319,31 @@ pub fn parse_words<'a>(
 ) -> Result<Request<'a>, WordError<'a>>
     ensures { IsParsed (parsed is_bold words.now) result }
 {
-    let [first, rest @ ..] = words else {
-        return Err(WordError::NoCommand);
-    };
-    parse_from(alloc, is_bold, *first, rest)
+    let mut asked = Asked::new(alloc, is_bold);
+    for (place, word) in words.iter().enumerate() {
+        match general_of(word) {
+            Some(option) => asked.set(option),
+            None => return parse_from(alloc, asked, *word, &words[place + 1..]),
+        }
+    }
+    Err(WordError::NoCommand)
 }
 
+// What the words from the first on ask for that is no option of every command.
 fn parse_from<'a>(
     alloc: Global,
-    is_bold: bool,
+    asked: Asked<'a>,
     first: &'a str,
     words: &[&'a str],
 ) -> Result<Request<'a>, WordError<'a>>
-    ensures { IsParsed (parsed_from is_bold first.entry words.now) result }
+    ensures { IsParsed (parsed_from (so_far asked.entry) first.entry words.now) result }
 {
     match first {
         "--help" | "-h" => Ok(Request::Help(None)),
         "--version" | "-V" => Ok(Request::Version),
         "help" => parse_help(words),
         word => match parse_command(word) {
-            Some(command) => parse_rest(alloc, is_bold, command, words),
+            Some(command) => parse_rest(alloc, asked, command, words),
             None => Err(WordError::Command(word, nearest(word))),
         },
     }
@@ -378,14 +384,14 @@ fn nearest(word: &str) -> Option<Command>
         .find(|command| is_like(word, command.word().as_bytes()))
 }
 
-// Whether a word begins another one, or differs from it by one letter.
+// Whether a word begins another one, or differs from it by one letter or by the order of two.
 fn is_like(word: &[u8], other: &[u8]) -> bool
     ensures { result ≡ is_like word.now other.now }
 {
     is_near(word, other) || !word.is_empty() && other.starts_with(word)
 }
 
-// Whether one letter at the most is left out, added or changed.
+// Whether one letter at the most is left out, added or changed, or two that stand together are the other way round.
 fn is_near(word: &[u8], other: &[u8]) -> bool
     ensures { result ≡ is_near word.now other.now }
 {
@@ -396,21 +402,31 @@ fn is_near(word: &[u8], other: &[u8]) -> bool
             if *first == *letter {
                 is_near(rest, others)
             } else {
-                rest == others || rest == other || word == others
+                rest == others || rest == other || word == others || is_swapped(word, other)
             }
         }
     }
 }
 
+// Whether the first two letters of a word are those of another one the other way round, and all else is the same.
+fn is_swapped(word: &[u8], other: &[u8]) -> bool
+    ensures { result ≡ is_swapped word.now other.now }
+{
+    match (word, other) {
+        ([a, b, rest @ ..], [c, d, others @ ..]) => *a == *d && *b == *c && rest == others,
+        _ => false,
+    }
+}
+
 fn parse_rest<'a>(
     alloc: Global,
-    is_bold: bool,
+    asked: Asked<'a>,
     command: Command,
     words: &[&'a str],
 ) -> Result<Request<'a>, WordError<'a>>
-    ensures { IsParsed (after command (nothing is_bold) words.now) result }
+    ensures { IsParsed (after command (so_far asked.entry) words.now) result }
 {
-    let mut asked = Asked::new(alloc, is_bold);
+    let mut asked = asked;
     for word in words {
         if asked.add(command, *word)? {
             return Ok(Request::Help(Some(command)));

@@ -1,13 +1,12 @@
 -- What became of a source.
 use Rattle.std.specs.Prelude.{◌≡◌, ℕ, Bool, List, [], ◌∷◌, ◌++◌, Option, Result, Ok, Err, IfOk, IfSome, Some}
-use Rattle.elf_records.specs.declared.parse.ParseError.{ParseError}
 use Rattle.elf_records.specs.Number.{ok_map}
 use Rattle.elf.specs.ElfStream.{StreamView}
 use Rattle.elf.specs.StreamFile.{stream_file}
 use Rattle.elf_linking.specs.Tree.{Found, file_of, without_bytes}
 use Rattle.elf_archive.specs.Archive.{Item}
 use Rattle.nugwier_commands.specs.Run.{ArePathSaid, AreWritten, IsBytesSaid, IsItemSaid, IsSaidAt, IsWritten, Known}
-use Rattle.nugwier_commands.specs.Run.{IsFileSaid, IsWrong, Listing, Saying, Written, heading_said}
+use Rattle.nugwier_commands.specs.Run.{IsFileSaid, IsWrong, Listing, Saying, Written, heading_said, lost_fault}
 use Rattle.nugwier_report.specs.Labels.{Named}
 use Rattle.nugwier_report.specs.declared.report.Summary.{Summary}
 use Rattle.nugwier_commands.specs.declared.ended.Ended.{Ended}
@@ -15,7 +14,7 @@ use Rattle.nugwier_commands.specs.declared.loading.Listed.{Listed}
 use Rattle.nugwier_commands.specs.declared.loading.Listed.TheVariants.{Said as WasSaid, Unread}
 use Rattle.nugwier_commands.specs.declared.run.Outcome.{Outcome}
 use Rattle.nugwier_commands.specs.declared.run.Outcome.TheVariants.{Done, Stopped, Wrong}
-use Rattle.nugwier_report.specs.declared.problem.Fault.TheVariants.{Read}
+use Rattle.nugwier_commands.specs.declared.ended.LostHeaders.{LostHeaders}
 use Rattle.nugwier_report.specs.declared.problem.Part.TheVariants.{SectionHeaders}
 use Rattle.nugwier_report.specs.declared.problem.Stop.{Stop}
 use Rattle.nugwier_report.specs.declared.problem.Stop.TheVariants.{Memory as IsMemory}
@@ -27,11 +26,11 @@ use Rattle.nugwier_report.specs.declared.kind.Kind.{Kind}
 use Rattle.nugwier_words.specs.Words.{Task}
 
 -- that section headers cannot be read, if this is why
-abbrev pub unread_said : Option ParseError → List Said
-unread_said unread = said_if (λ e. wrong (whole SectionHeaders) (Read e) ∷ []) unread
+abbrev pub unread_said : Option LostHeaders → List Said
+unread_said unread = said_if (λ lost. wrong (whole SectionHeaders) (lost_fault lost.error lost.len) ∷ []) unread
 
 -- that, and then what this says of the file
-abbrev pub IsSaidAfter : Option ParseError → (Named → List Said → Type 0) → Named → List Said → Type 0
+abbrev pub IsSaidAfter : Option LostHeaders → (Named → List Said → Type 0) → Named → List Said → Type 0
 IsSaidAfter unread Says named said = (rest : List Said) × Says named rest × (said ≡ unread_said unread ++ rest)
 
 module _ {W V : Type 0} (out_of : W → Option (List ℕ)) (err_of : V → Option (List ℕ)) where

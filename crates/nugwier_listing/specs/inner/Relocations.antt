@@ -1,5 +1,5 @@
 -- The relocations that were taken.
-use Rattle.std.specs.Prelude.{List, [], ◌∷◌, ◌++◌, map}
+use Rattle.std.specs.Prelude.{List, ◌++◌, map}
 use Rattle.std.specs.Option.{option_map}
 use Rattle.elf.specs.Answers.{relas_left, rels_left}
 use Rattle.elf_dynamic.specs.Relr.{addresses_left}
@@ -46,9 +46,6 @@ part_view part = record {
   symbols = ok_map (option_map symbols_view) part.symbols;
   records = ok_map records_view part.records;
 }
-
-abbrev pub part_views : {E : Type 0} → RelocationPart E → List PlacedRelocations
-part_views part = part_view part ∷ []
 
 abbrev pub surroundings : {E : Type 0} → RelocationTables E → Surroundings
 surroundings t = record {

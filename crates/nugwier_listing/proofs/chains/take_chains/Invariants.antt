@@ -1,16 +1,16 @@
-use Rattle.std.proofs.Common.{◌≡◌, ◌++◌, drop}
+use Rattle.std.proofs.Common.{◌≡◌, ◌++◌, map}
 use Rattle.std.specs.List.{flat_map}
-use Rattle.nugwier_listing.specs.Chains.{after_hash, said_of_chains, section_chains_in}
-use Rattle.nugwier_listing.specs.Notes.{numbered_within}
+use Rattle.std.specs.Vec.Iter.{into_iter_items}
+use Rattle.nugwier_listing.specs.Chains.{chains_of, said_of_chains}
 use Rattle.nugwier_listing.specs.Whole.{file_of}
 use Rattle.nugwier_listing.specs.inner.Chains.{part_said}
+use Rattle.nugwier_listing.specs.inner.TypedSections.{section_view}
 use Rattle.nugwier_listing.proofs.chains.take_chains.Given as goal
 
--- what was taken so far, and then the sections that are left, is the whole
+-- what was taken so far, and then the hash sections that are left, is the whole
 abbrev pub invariant-loop-section : goal.invariant-loop-section
 invariant-loop-section g l =
     let whole = file_of (g.R.Headers.file l.file) (g.R.ListedFile.bytes l.file) in
-    (l.number ≡ l.section-index)
-    × (flat_map part_said l.parts.items
-    ++ numbered_within (section_chains_in whole) (after_hash whole) l.left l.section-index (drop l.section-index l.section-items)
-    ≡ said_of_chains whole)
+    flat_map part_said l.parts.items
+    ++ flat_map (chains_of whole) (map section_view (into_iter_items l.section-iterator))
+    ≡ said_of_chains whole

@@ -1,6 +1,6 @@
 use Rattle.std.proofs.Common.{◌≡◌, ◌++◌, drop}
 use Rattle.std.specs.List.{flat_map}
-use Rattle.nugwier_listing.specs.Notes.{after_segment, numbered_within, said_of_note_segments, segment_notes_in}
+use Rattle.nugwier_listing.specs.Notes.{notes_of_segments, said_of_note_segments}
 use Rattle.nugwier_listing.specs.Whole.{file_of}
 use Rattle.nugwier_listing.specs.inner.Notes.{part_said}
 use Rattle.nugwier_listing.proofs.notes.take_segments.Given as goal
@@ -12,5 +12,5 @@ invariant-loop-segment g l =
     let machine = (g.R.ListedFile.header l.file).e_machine in
     (l.number ≡ l.segment-index)
     × (flat_map part_said l.parts.items
-    ++ numbered_within (segment_notes_in machine whole) (after_segment whole) l.left l.segment-index (drop l.segment-index l.segment-items)
+    ++ notes_of_segments machine whole l.left l.segment-index (drop l.segment-index l.segment-items)
     ≡ said_of_note_segments machine whole)

@@ -1,16 +1,15 @@
-use Rattle.std.proofs.Common.{◌≡◌, ◌++◌, drop}
-use Rattle.std.specs.List.{flat_map}
-use Rattle.nugwier_listing.specs.Notes.{numbered_within}
-use Rattle.nugwier_listing.specs.Relocations.{after_relocations, relocations_in, sections_relocations}
+use Rattle.std.proofs.Common.{◌≡◌, ◌++◌, map}
+use Rattle.std.specs.Vec.Iter.{into_iter_items}
+use Rattle.nugwier_listing.specs.Relocations.{section_relocations, sections_relocations}
 use Rattle.nugwier_listing.specs.Whole.{file_of}
-use Rattle.nugwier_listing.specs.inner.Relocations.{part_views}
+use Rattle.nugwier_listing.specs.inner.Relocations.{part_view}
+use Rattle.nugwier_listing.specs.inner.TypedSections.{section_view}
 use Rattle.nugwier_listing.proofs.relocations.take_sections.Given as goal
 
--- what was taken so far, and then the sections that are left, is the whole
+-- what was taken so far, and then the relocations that are left, is the whole
 abbrev pub invariant-loop-section : goal.invariant-loop-section
 invariant-loop-section g l =
     let whole = file_of (g.R.Headers.file l.file) (g.R.ListedFile.bytes l.file) in
-    (l.number ≡ l.section-index)
-    × (flat_map part_views l.parts.items
-    ++ numbered_within (relocations_in whole) (after_relocations whole) l.left l.section-index (drop l.section-index l.section-items)
-    ≡ sections_relocations whole)
+    map part_view l.parts.items
+    ++ map (section_relocations whole) (map section_view (into_iter_items l.section-iterator))
+    ≡ sections_relocations whole
