@@ -673,6 +673,8 @@ static void fault_texts(void)
         {{NUGWIER_FAULT_NEEDS_SHORT, NUGWIER_PART_VERSIONS, 0, 3, 0}, "versions: needs: only 3 of them"},
         {{NUGWIER_FAULT_UNKNOWN_VERSION_INDEX, NUGWIER_PART_VERSIONS, 0, 12, 0},
          "versions: symbol 12: no version with its index"},
+        {{NUGWIER_FAULT_AMBIGUOUS_VERSION_INDEX, NUGWIER_PART_VERSIONS, 0, 12, 0},
+         "versions: symbol 12: a definition and a need with its index"},
         {{NUGWIER_FAULT_SECOND_TLS, NUGWIER_PART_SEGMENT, 4, 2, 0},
          "segment 4 (PT_TLS): segment 2 has this type too"},
         {{NUGWIER_FAULT_OVERLAPPING_LOAD, NUGWIER_PART_SEGMENT, 4, 2, 0},

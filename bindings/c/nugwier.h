@@ -604,6 +604,7 @@ enum {
     NUGWIER_FAULT_NO_DYNAMIC_SYMBOLS = 613,           /* no symbols for dynamic linking */
     NUGWIER_FAULT_COUNT_OF_VERSION_INDEXES = 614,     /* not as many version indexes as symbols */
     NUGWIER_FAULT_UNKNOWN_VERSION_INDEX = 615,        /* first: the symbol whose index is that of no version */
+    NUGWIER_FAULT_AMBIGUOUS_VERSION_INDEX = 616,      /* first: the symbol whose index is that of two versions */
     /* of two segments; first: the index of the earlier one */
     NUGWIER_FAULT_SECOND_INTERP = 701,
     NUGWIER_FAULT_SECOND_DYNAMIC = 702,

@@ -24,7 +24,7 @@ _nugwier() {
         esac
         case $word in
             -*)
-                mapfile -t COMPREPLY < <(compgen -W "-h -S -g -l -s -D -d -r -n -V -I -a -x -p -W --wide \
+                mapfile -t COMPREPLY < <(compgen -W "-h -S -g -l -s -D -d -r -n -V -I -A -k -a -x -p -W --wide \
 --color=always --color=never --json -R --recursive --help" -- "$word")
                 return
                 ;;
@@ -40,7 +40,7 @@ _nugwier() {
     elif [ "${COMP_WORDS[1]}" = harden ]; then
         if [ "$before" = --require ]; then
             mapfile -t COMPREPLY < <(compgen -W \
-                "pie relro bindnow nx canary fortify runpath ibt shstk bti pac stripped" -- "$word")
+                "pie relro bindnow nx wx canary fortify runpath ibt shstk bti pac stripped" -- "$word")
             return
         elif [ "${word#-}" != "$word" ]; then
             mapfile -t COMPREPLY < <(compgen -W "--require --color=always --color=never --json -R --recursive --help" -- "$word")

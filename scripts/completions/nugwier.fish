@@ -31,6 +31,8 @@ complete -c nugwier -n "__fish_seen_subcommand_from list" -s r -d relocations
 complete -c nugwier -n "__fish_seen_subcommand_from list" -s n -d notes
 complete -c nugwier -n "__fish_seen_subcommand_from list" -s V -d versions
 complete -c nugwier -n "__fish_seen_subcommand_from list" -s I -d "chains of hash sections"
+complete -c nugwier -n "__fish_seen_subcommand_from list" -s A -d "build attributes"
+complete -c nugwier -n "__fish_seen_subcommand_from list" -s k -d "links to debug information"
 complete -c nugwier -n "__fish_seen_subcommand_from list" -s a -d all
 complete -c nugwier -n "__fish_seen_subcommand_from list" -s x -x -d "bytes of a section"
 complete -c nugwier -n "__fish_seen_subcommand_from list" -s p -x -d "strings of a section"
@@ -46,7 +48,7 @@ complete -c nugwier -n "__fish_seen_subcommand_from symbols" -s S -l print-size 
 complete -c nugwier -n "__fish_seen_subcommand_from symbols" -s P -d "as POSIX has it"
 complete -c nugwier -n "__fish_seen_subcommand_from symbols" -s f -l format -x -a "posix bsd" -d format
 complete -c nugwier -n "__fish_seen_subcommand_from exports" -l functions -d "functions alone"
-complete -c nugwier -n "__fish_seen_subcommand_from harden" -l require -x -a "pie relro bindnow nx canary fortify runpath ibt shstk bti pac stripped" -d "what a file must have"
+complete -c nugwier -n "__fish_seen_subcommand_from harden" -l require -x -a "pie relro bindnow nx wx canary fortify runpath ibt shstk bti pac stripped" -d "what a file must have"
 complete -c nugwier -n "__fish_seen_subcommand_from tree bindings" -l search -x -a "(__fish_complete_directories)" -d "folder of libraries"
 complete -c nugwier -n "__fish_seen_subcommand_from tree bindings" -l root -x -a "(__fish_complete_directories)" -d "folder of an image"
 complete -c nugwier -n "__fish_seen_subcommand_from tree bindings" -l no-cache -d "without ld.so.cache"

@@ -9,8 +9,7 @@ use Rattle.elf.specs.Ranges.{headers_alone}
 use Rattle.elf.specs.StreamFile.{stream_file}
 use Rattle.elf.specs.ObjectFile.{object_file}
 use Rattle.elf.specs.Readers.{AreAlike, SameAnswers}
-use Rattle.elf_reading.specs.Opening.{opened_file}
-use Rattle.elf.specs.ElfStream.{IsOfFile, Keeps, Leaves, StreamView}
+use Rattle.elf.specs.ElfStream.{IsOfFile, Keeps, Leaves, StreamView, opened_as}
 use Rattle.elf_reading.specs.Opening.{StreamHeaders, headers_of}
 use Rattle.elf_reading.specs.Refusals.{IsAnswer}
 use Rattle.elf_reading.specs.Refusals.{IsRefused, Kind, kind}
@@ -63,8 +62,8 @@ module _ {E : Type 0} (little : E → Bool) (bytes : List ℕ) (v : FileView E)
       (calls_alike call.new calls (leaves.left.keeps.content ∙ content) (stay v old call.new leaves.left.keeps now) made.1)
 
 pub stream_alike : {E : Type 0} (little : E → Bool) (of_byte : ℕ → Option E) (s : StreamView E) (known : Option (List ℕ))
-    → ((bytes : List ℕ) (v : FileView E) (header : FileHeader E) (s : StreamView E) → opened_file little of_byte bytes ≡ Ok v → s.headers ≡ headers_of (with_header v header) → SameAnswers (object_file little (with_header v header)) (stream_file little s bytes))
+    → ((bytes : List ℕ) (v : FileView E) (header : FileHeader E) → opened_as little of_byte s.by_segments bytes ≡ Ok v → s.headers ≡ headers_of (with_header v header) → SameAnswers (object_file little (with_header v header)) (stream_file little s bytes))
     → IfSome known (λ bytes. IsOfFile little of_byte bytes s)
-    → IfSome known (λ bytes. (v : FileView E) × (opened_file little of_byte bytes ≡ Ok v) × SameAnswers (object_file little (with_header v s.headers.ehdr)) (stream_file little s bytes))
+    → IfSome known (λ bytes. (v : FileView E) × (opened_as little of_byte s.by_segments bytes ≡ Ok v) × SameAnswers (object_file little (with_header v s.headers.ehdr)) (stream_file little s bytes))
 stream_alike little of_byte s None law h = tt
-stream_alike little of_byte s (Some bytes) law h = (h.0, h.1, law bytes h.0 s.headers.ehdr s h.1 h.2)
+stream_alike little of_byte s (Some bytes) law h = (h.0, h.1, law bytes h.0 s.headers.ehdr h.1 h.2)

@@ -20,12 +20,12 @@ use Rattle.elf.specs.Headers.{first_section_of, if_found}
 use Rattle.elf.specs.StreamFile.{listed_at, listed_file, stream_file}
 use Rattle.elf.specs.Names.{name_index, name_section, name_table}
 use Rattle.elf.specs.ObjectFile.{ObjectFile, entry_size, object_file, table_of, section_part}
-use Rattle.elf_reading.specs.Opening.{header_at_front, opened_file, section_count, section_table, segment_table, table_bytes}
+use Rattle.elf_reading.specs.Opening.{header_at_front, opened_by_segments, opened_file, section_count, section_table, segment_table, table_bytes}
 use Rattle.elf.specs.Data.{section_data}
 use Rattle.elf.specs.Headers.{section_at}
 use Rattle.elf.specs.Readers.{AreAlike, Method, SameAnswers, answer}
 use Rattle.elf.specs.Readers.{Dynamic, DynamicSymbolTable, SectionData, SectionDataAsNotes, SectionDataAsRelas, SectionDataAsRels, SectionDataAsStrtab, SectionHeaderByName, SectionHeadersWithStrtab, SegmentData, SegmentDataAsNotes, SymbolTable, SymbolVersionTable}
-use Rattle.elf.specs.ElfStream.{StreamView}
+use Rattle.elf.specs.ElfStream.{StreamView, opened_as}
 use Rattle.elf_reading.specs.Opening.{headers_of}
 use Rattle.elf.specs.Versions.{linked_strings, version_definitions, version_indexes, version_needs, versions_of}
 use Rattle.elf_reading.specs.Versions.{version_sections}
@@ -188,6 +188,18 @@ module _ {E : Type 0} (little : E → Bool) where
         short = λ t some. let there : b.0 ≡ Some t = cc (c.2, some) in sections_short a.0 bytes t (b.1 ∙ ap Ok there);
       }
 
+  by_segments_is : (of_byte : ℕ → Option E) (bytes : List ℕ) (v : FileView E) → opened_by_segments little of_byte bytes ≡ Ok v → Opened bytes v
+  by_segments_is of_byte bytes v read =
+      let made : FileHeader E → Option Table → Result (FileView E) ParseError = λ h segments. Ok (record { ehdr = h; bytes = bytes; sections = None; segments = segments }) in
+      let a = bind-ok (header_at_front little of_byte bytes) (λ h. segment_table little h bytes >>= made h) v read in
+      let b = bind-ok (segment_table little a.0 bytes) (made a.0) v a.2 in
+      let none : v.sections ≡ None = cc b.2 in
+      record { same = cc b.2; short = λ t some. cc (none, some) }
+
+  pub opened_as_is : (of_byte : ℕ → Option E) (by_segments : Bool) (bytes : List ℕ) (v : FileView E) → opened_as little of_byte by_segments bytes ≡ Ok v → Opened bytes v
+  opened_as_is of_byte true bytes v read = by_segments_is of_byte bytes v read
+  opened_as_is of_byte false bytes v read = opened_is of_byte bytes v read
+
 -- ---- the table and the list
 
 module _ (law : (t : Table) (i : ℕ) → length t.bytes < 2 ^ 64 → slice_get (table_items section_header_reads t) i ≡ result_ok (table_get section_header_reads t i)) where
@@ -200,11 +212,11 @@ module _ (law : (t : Table) (i : ℕ) → length t.bytes < 2 ^ 64 → slice_get 
   at_alike (Some t) short i = sym (ok_of_or (slice_get (section_list (Some t)) i) _ ∙ law t i (short t refl))
 
   pub list_answers :
-      {E : Type 0} (little : E → Bool) (of_byte : ℕ → Option E) (bytes : List ℕ) (v : FileView E) (h : FileHeader E) (s : StreamView E) →
-      opened_file little of_byte bytes ≡ Ok v → s.headers ≡ headers_of (with_header v h) →
+      {E : Type 0} (little : E → Bool) (of_byte : ℕ → Option E) (by_segments : Bool) (bytes : List ℕ) (v : FileView E) (h : FileHeader E) (s : StreamView E) →
+      opened_as little of_byte by_segments bytes ≡ Ok v → s.headers ≡ headers_of (with_header v h) →
       SameAnswers (object_file little (with_header v h)) (stream_file little s bytes)
-  list_answers little of_byte bytes v h s read shown =
-      let known = opened_is little of_byte bytes v read in
+  list_answers little of_byte by_segments bytes v h s read shown =
+      let known = opened_as_is little of_byte by_segments bytes v read in
       let file = object_file little (with_header v h) in
       let table = same_answers file (listed_at (section_list v.sections)) (at_alike v.sections known.short) in
       let list = subst (λ b. SameAnswers file (listed_file little (headers_of (with_header v h)) b)) known.same table in

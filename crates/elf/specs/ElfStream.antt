@@ -1,22 +1,23 @@
 -- What contracts see of an `ElfStream`, and what a call of it leaves and answers.
 use Rattle.std.specs.List.{filter}
-use Rattle.std.specs.Prelude.{◌≡◌, ℕ, ◌+◌, ◌^◌, ◌⊎◌, ◌&&◌, Bool, IsTrue, List, [], ◌∷◌, length, map, nat_le, nat_lt}
+use Rattle.std.specs.Prelude.{◌≡◌, ℕ, ◌+◌, ◌^◌, ◌⊎◌, ◌&&◌, Bool, true, false, IsTrue, List, [], ◌∷◌, length, map, nat_le, nat_lt}
 use Rattle.std.specs.Prelude.{Option, None, Result, Ok, Err, IfSome, OnOk, IfErr, IsOk, IsErr}
 use Rattle.elf_records.specs.Number.{bytes_at}
 use Rattle.elf_records.specs.declared.parse.ParseError.{ParseError}
-use Rattle.elf_reading.specs.Opening.{opened_file}
+use Rattle.elf_reading.specs.Opening.{opened_by_segments, opened_file}
 use Rattle.elf.specs.ElfBytes.{with_header}
 use Rattle.elf_reading.specs.Opening.{StreamHeaders, FileView, headers_of}
 use Rattle.elf_reading.specs.Cache.{Piece, is_cached}
 use Rattle.elf_reading.specs.Refusals.{AllocationFailure, HasReason, IsAnswer, Kind, MayRefuse, Refusal, SourceFailure}
 use Rattle.elf_reading.specs.Refusals.{kind}
 
--- a stream: the content of its source, if known, whether the source can fail and how often it did; its headers; and the
--- ranges of the source that are cached, each by its start and its end
+-- a stream: the content of its source, if known, whether the source can fail and how often it did; whether it was opened
+-- by its segments alone; its headers; and the ranges of the source that are cached, each by its start and its end
 pub record StreamView (E : Type 0) : Type 0 where
   pub content : Option (List ℕ)
   pub can_fail : Bool
   pub failures : ℕ
+  pub by_segments : Bool
   pub headers : StreamHeaders E
   pub cached : List (ℕ × ℕ)
   -- its length, and the bytes that are cached
@@ -25,11 +26,16 @@ pub record StreamView (E : Type 0) : Type 0 where
 
 -- ---- its headers
 
+-- the file that the bytes hold, opened by its segments alone or with both tables
+abbrev pub opened_as : {E : Type 0} → (E → Bool) → (ℕ → Option E) → Bool → List ℕ → Result (FileView E) ParseError
+opened_as little of_byte true bytes = opened_by_segments little of_byte bytes
+opened_as little of_byte false bytes = opened_file little of_byte bytes
+
 -- the stream is of the file that these bytes hold: its tables are those that the opening gives, whatever header is
 -- in it now
 abbrev pub IsOfFile : {E : Type 0} → (E → Bool) → (ℕ → Option E) → List ℕ → StreamView E → Type 0
 IsOfFile {E} little of_byte bytes s =
-    (v : FileView E) × (opened_file little of_byte bytes ≡ Ok v)
+    (v : FileView E) × (opened_as little of_byte s.by_segments bytes ≡ Ok v)
     × (s.headers ≡ headers_of (with_header v s.headers.ehdr))
 
 -- ---- which ranges are cached
@@ -51,12 +57,14 @@ IsRequested requested start end = IsTrue (is_cached (map (λ r. (r.0, r.0 + r.1)
 pub record Keeps {E : Type 0} (old new : StreamView E) : Type 0 where
   pub content : new.content ≡ old.content
   pub can_fail : new.can_fail ≡ old.can_fail
+  pub by_segments : new.by_segments ≡ old.by_segments
   pub headers : new.headers ≡ old.headers
   pub size : new.size ≡ old.size
   pub cached : (start end : ℕ) → IsCached old start end → IsCached new start end
 
 -- the same headers and the same cached bytes, over a source that is closed
 pub record IsClosed {E : Type 0} (old new : StreamView E) : Type 0 where
+  pub by_segments : new.by_segments ≡ old.by_segments
   pub headers : new.headers ≡ old.headers
   pub cached : new.cached ≡ old.cached
   pub size : new.size ≡ old.size

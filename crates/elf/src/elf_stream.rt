@@ -1,17 +1,19 @@
 //! The reader over a source that is read lazily.
 ghost use Rattle.std.specs.List.{filter};
 ghost use Rattle.std.specs.Prelude.{◌≡◌, ℕ, ◌≤◌, ◌+◌, ◌^◌, ◌<◌, ◌⊎◌, OnOk, OnErr, IfOk, IfErr};
-ghost use Rattle.std.specs.Prelude.{IfSome, Ok, IsOk, length, take, drop, [], ◌∷◌};
+ghost use Rattle.std.specs.Prelude.{IfSome, Ok, IsOk, false, length, take, drop, true, [], ◌∷◌};
 ghost use Rattle.elf_records.specs.Number.{bytes_at, ok_map};
 ghost use Rattle.elf.specs.Ranges.{headers_alone, if_there, linked_ranges, linked_section, range_of_section};
 ghost use Rattle.elf.specs.Ranges.{range_of_segment, section_ranges};
-ghost use Rattle.elf_reading.specs.Opening.{opened_file};
+ghost use Rattle.elf_reading.specs.Opening.{opened_by_segments, opened_file};
 ghost use Rattle.elf.specs.ElfStream.{IsFor, IsOfFile, Keeps, IsCached, IsOpening, LoadsRanges, lies_in};
 ghost use Rattle.elf_reading.specs.Refusals.{IsAnswer};
-ghost use Rattle.elf_reading.specs.Opening.{headers_of};
+ghost use Rattle.elf_reading.specs.Opening.{headers_of, read_headers};
 ghost use Rattle.elf_reading.specs.Refusals.{Kind, kind};
 ghost use Rattle.elf.specs.ElfStream.{IsRequested};
 ghost use Rattle.elf.specs.inner.Loads.{Loads};
+ghost use Rattle.elf.specs.inner.Opened.{AreTables};
+ghost use Rattle.elf_reading.specs.inner.Reads.{HasLength};
 
 use crate::headers::Headers;
 use elf_abi::abi;
@@ -21,7 +23,7 @@ use elf_parts::parse::ParseError;
 use elf_parts::section::SectionHeader;
 use elf_parts::segment::ProgramHeader;
 use elf_reading::cache::Cache;
-use elf_reading::opening::open_source;
+use elf_reading::opening::{SourceHeaders, open_source, open_source_by_segments};
 use elf_reading::reads::fetch;
 use elf_reading::source::StreamSource;
 use std::alloc::Allocator;
@@ -62,6 +64,7 @@ pub use closed::Closed;
 #[derive(Drop)]
 pub struct ElfStream<E: EndianParse, S: StreamSource, A: Allocator + Copy> {
     pub ehdr: FileHeader<E>,
+    by_segments: bool,
     declares_sections: bool,
     shdrs: Vec<SectionHeader, A>,
     phdrs: Vec<ProgramHeader, A>,
@@ -83,6 +86,7 @@ impl<E: EndianParse, S: StreamSource, A: Allocator + Copy> Model for ElfStream<E
       content = S.content s.source;
       can_fail = S.can_fail s.source;
       failures = S.failures s.source;
+      by_segments = s.by_segments;
       headers = record {
         ehdr = s.ehdr;
         declares_sections = s.declares_sections;
@@ -95,7 +99,7 @@ impl<E: EndianParse, S: StreamSource, A: Allocator + Copy> Model for ElfStream<E
     } };
 
     ghost invariant = { λ s. IsOpened E.little E.of_byte (S.content s.source) s.len s.cache
-        s.declares_sections s.shdrs.items s.phdrs.items };
+        s.by_segments s.declares_sections s.shdrs.items s.phdrs.items };
 }
 
 impl<E: EndianParse, S: StreamSource, A: Allocator + Copy> ElfStream<E, S, A> {
@@ -118,24 +122,69 @@ impl<E: EndianParse, S: StreamSource, A: Allocator + Copy> ElfStream<E, S, A> {
     pub fn open_stream(alloc: A, mut reader: S) -> Result<Self, ParseError>
         ensures content { IfOk result (λ s. (s.content ≡ S.content reader) × (s.can_fail ≡ S.can_fail reader)) }
         ensures cached { IfOk result (λ s. s.cached ≡ []) }
+        ensures tables { IfOk result (λ s. s.by_segments ≡ false) }
         ensures opening { IfSome (S.content reader) (λ bytes. IsOpening
             (ok_map headers_of (opened_file E.little E.of_byte bytes)) (S.can_fail reader) (S.failures reader) result) }
     {
         let found = open_source(alloc, &mut reader)?;
-        Ok(ElfStream {
+        Ok(ElfStream::with_headers(alloc, reader, found, false))
+    }
+
+    /// Opens a file by its header and its program headers alone, as the dynamic linker does (gABI, chapter "Program
+    /// Header"). So a file whose section headers cannot be read, as when its end was cut off, is still read through its
+    /// segments; it declares no section headers. Caches no other bytes. Allocates memory for the program headers only,
+    /// and only if they lie in the source.
+    ///
+    /// If the content of the source is known, the program headers are those that `ElfBytes::parse_by_segments` finds in
+    /// it. Returns an error if that returns one. Otherwise the error is `IOError`, only if the source can fail, or
+    /// `OutOfMemory` (tested, not proved: only if an allocation failed); of a file that `parse_by_segments` does not open
+    /// it is never `OutOfMemory`. The source is dropped with any error.
+    ///
+    /// Errors, in order: those of the header, then those of the program headers. A range gives `BadOffset(end)` if it
+    /// does not lie in the source; the others are those of `ElfBytes::parse_by_segments`.
+    ///
+    /// ```rust
+    /// let source = FileSource::new(File::open(rt, "/bin/sh")?);
+    /// let stream = ElfStream::<AnyEndian, _, _>::open_stream_by_segments(rt.alloc(), source)?;
+    /// println!(rt; "{} segments", stream.segments().len())?;
+    /// ```
+    pub fn open_stream_by_segments(alloc: A, mut reader: S) -> Result<Self, ParseError>
+        ensures content { IfOk result (λ s. (s.content ≡ S.content reader) × (s.can_fail ≡ S.can_fail reader)) }
+        ensures cached { IfOk result (λ s. s.cached ≡ []) }
+        ensures tables { IfOk result (λ s. s.by_segments ≡ true) }
+        ensures opening { IfSome (S.content reader) (λ bytes. IsOpening
+            (ok_map headers_of (opened_by_segments E.little E.of_byte bytes)) (S.can_fail reader) (S.failures reader)
+            result) }
+    {
+        let found = open_source_by_segments(alloc, &mut reader)?;
+        Ok(ElfStream::with_headers(alloc, reader, found, true))
+    }
+
+    // A stream over a source, with the headers that were read from it. Nothing is cached.
+    fn with_headers(alloc: A, source: S, found: SourceHeaders<E, A>, by_segments: bool) -> Self
+        requires length { HasLength S.StreamSource source found.len }
+        requires tables { IfSome (S.content source) (λ bytes. AreTables E.little E.of_byte by_segments bytes
+            found.declares_sections found.shdrs.items found.phdrs.items) }
+        ensures source { (result.content ≡ S.content source) × (result.can_fail ≡ S.can_fail source)
+            × (result.failures ≡ S.failures source) }
+        ensures opened { (result.headers ≡ read_headers found) × (result.by_segments ≡ by_segments) }
+        ensures cached { result.cached ≡ [] }
+    {
+        ElfStream {
             ehdr: found.ehdr,
+            by_segments,
             declares_sections: found.declares_sections,
             shdrs: found.shdrs,
             phdrs: found.phdrs,
             alloc,
-            source: reader,
+            source,
             len: found.len,
             cache: Cache::new(alloc),
-        })
+        }
     }
 
-    /// States that the tables of a stream are those of its file: if the content of the source is known, opening it
-    /// succeeds and gives these section and program headers, whatever header `ehdr` now holds.
+    /// States that the tables of a stream are those of its file: if the content of the source is known, opening it as
+    /// the stream was opened succeeds and gives these section and program headers, whatever header `ehdr` now holds.
     pub fn is_of_file(&self)
         ensures { IfSome self.now.content (λ bytes. IsOfFile E.little E.of_byte bytes self.now) }
     {

@@ -10,7 +10,7 @@ ghost use Rattle.elf.specs.StreamFile.{stream_file};
 ghost use Rattle.elf.specs.ObjectFile.{object_file};
 ghost use Rattle.elf_reading.specs.Opening.{opened_file};
 ghost use Rattle.elf.specs.Readers.{SameAnswers};
-ghost use Rattle.elf.specs.ElfStream.{AreCached, StreamView};
+ghost use Rattle.elf.specs.ElfStream.{AreCached, StreamView, opened_as};
 ghost use Rattle.elf_reading.specs.Opening.{headers_of};
 ghost use Rattle.elf.specs.ElfBytes.{with_header};
 ghost use Rattle.elf_reading.specs.Opening.{FileView};
@@ -34,30 +34,31 @@ pub fn list_answers_as_table<E: EndianParse>()
     list_is_what_get_gives::<SectionHeader>();
 }
 
-/// The main theorem, about lists of calls. Take a stream over known content that was opened from it, whatever calls
-/// were made since. Then each call of a list of calls returns what `ElfBytes` over that content returns, whatever
+/// The main theorem, about lists of calls. Take a stream over known content that was opened from it, with its section
+/// headers or by its segments alone, whatever calls were made since. Then each call of a list of calls returns what `ElfBytes` over that content returns, whatever
 /// header is put into `ehdr` before the call: the same value, or an error from both. If the stream alone returns an
 /// error, that is `IOError` or `OutOfMemory`.
 pub fn calls_answer_alike<E: EndianParse>()
-    ensures { (bytes : List ℕ) (v : FileView E) (s : StreamView E) (calls : List (Call E)) →
-        opened_file E.little E.of_byte bytes ≡ Ok v → s.content ≡ Some bytes →
+    ensures { (bytes : List ℕ) (v : FileView E) (s : StreamView E) (calls : List (Call E)) (by_segments : Bool) →
+        opened_as E.little E.of_byte by_segments bytes ≡ Ok v → s.content ≡ Some bytes →
         s.headers ≡ headers_of (with_header v s.headers.ehdr) → AreMade E.little s calls →
         All (IsAnsweredAlike E.little v) calls }
 {
-    list_answers_as_table::<E>();
+    list_is_what_get_gives::<SectionHeader>();
 }
 
-/// States that what a stream over known content returns about its file is what `ElfBytes` over that content returns,
-/// with the header that the stream has now: the same value, or an error from both.
+/// States that what a stream over known content returns about its file is what `ElfBytes` over that content returns, if
+/// that is opened as the stream was and has the header that the stream has now: the same value, or an error from both.
 pub fn stream_answers_as_bytes<E: EndianParse, S: StreamSource, A: Allocator + Copy>(
     stream: &ElfStream<E, S, A>,
 )
-    ensures { IfSome stream.now.content (λ bytes. (v : FileView E) × (opened_file E.little E.of_byte bytes ≡ Ok v)
+    ensures { IfSome stream.now.content (λ bytes. (v : FileView E)
+        × (opened_as E.little E.of_byte stream.now.by_segments bytes ≡ Ok v)
         × SameAnswers (object_file E.little (with_header v stream.now.headers.ehdr))
         (stream_file E.little stream.now bytes)) }
 {
     stream.is_of_file();
-    list_answers_as_table::<E>();
+    list_is_what_get_gives::<SectionHeader>();
 }
 
 /// States that a partly loaded file answers each method as the whole file does, with the same

@@ -106,6 +106,7 @@ versions_template kind =
     else if kind == 613 then codes "versions: no symbols for dynamic linking"
     else if kind == 614 then codes "versions: not as many version indexes as symbols"
     else if kind == 615 then codes "versions: symbol $: no version with its index"
+    else if kind == 616 then codes "versions: symbol $: a definition and a need with its index"
     else []
 
 unfoldable pub segments_template : ℕ → List ℕ

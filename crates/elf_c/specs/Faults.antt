@@ -123,6 +123,7 @@ versions_fault versions.IndexesUnreadable = of_versions 612 0
 versions_fault versions.NoDynamicSymbols = of_versions 613 0
 versions_fault versions.CountOfIndexes = of_versions 614 0
 versions_fault (versions.UnknownIndex symbol) = of_versions 615 symbol
+versions_fault (versions.AmbiguousIndex symbol) = of_versions 616 symbol
 
 -- ---- of a segment: of one, the first number is its type; of a pair, that of the earlier one
 

@@ -151,6 +151,9 @@ fn versions_template(kind: u32) -> &'static str
         kinds::NO_DYNAMIC_SYMBOLS => "versions: no symbols for dynamic linking",
         kinds::COUNT_OF_VERSION_INDEXES => "versions: not as many version indexes as symbols",
         kinds::UNKNOWN_VERSION_INDEX => "versions: symbol $: no version with its index",
+        kinds::AMBIGUOUS_VERSION_INDEX => {
+            "versions: symbol $: a definition and a need with its index"
+        }
         _ => "",
     }
 }

@@ -255,6 +255,9 @@ fn versions_fault(found: &VersionsFault) -> NugwierFault
         VersionsFault::UnknownIndex { symbol } => {
             of_versions(kinds::UNKNOWN_VERSION_INDEX, *symbol as u64)
         }
+        VersionsFault::AmbiguousIndex { symbol } => {
+            of_versions(kinds::AMBIGUOUS_VERSION_INDEX, *symbol as u64)
+        }
     }
 }
 

@@ -1,7 +1,8 @@
 -- The version of a symbol, looked up in a table that is sound.
-use Rattle.std.proofs.Common.{◌≡◌, ◌≢◌, ◌↔◌, ◌<◌, ◌^◌, length, ℕ, Bool, true, false, ◌==◌, if◌then◌else◌, List, Option, Some, None, Result, Ok, Err, refl, sym, subst, inl, inr}
+use Rattle.std.proofs.Common.{◌≡◌, ◌≢◌, ◌↔◌, ◌+◌, ◌<◌, ◌^◌, length, ℕ, Bool, true, false, ◌==◌, if◌then◌else◌, List, Option, Some, None, Result, Ok, Err, refl, sym, subst, inl, inr, arith}
 use Rattle.std.specs.List.{AllByRecursion}
-use Rattle.std.specs.Option.{IfSome, IsSome, option_map}
+use Rattle.std.specs.Int.{from_bool}
+use Rattle.std.specs.Option.{IfSome, IsSome, is_some, option_map}
 use Rattle.std.specs.Result.{IsOk}
 use Rattle.std.proofs.lemmas.Bool.{ne_eqb}
 use Rattle.std.proofs.lemmas.Str.{IsUtf8-from_is_utf8}
@@ -15,9 +16,9 @@ use Rattle.elf_parts.specs.declared.gnu_symver.records.VerNeed.{VerNeed}
 use Rattle.elf_parts.specs.declared.gnu_symver.records.VerNeedAux.{VerNeedAux}
 use Rattle.elf_parts.specs.declared.gnu_symver.records.VersionIndex.{VersionIndex}
 use Rattle.elf_parts.specs.declared.gnu_symver.table.SymbolRequirement.{SymbolRequirement}
-use Rattle.elf_parts.specs.gnu_symver.VersionEntry.{defined_with, entry_of, required_with}
-use Rattle.elf_check.specs.versions.Indexes.{GlobalVersion, LocalVersion, NamedVersion, SoundVersionTable}
-use Rattle.elf_check.specs.versions.Indexes.{TextDefinition, TextDefinitions, TextNeeds, version_with_index}
+use Rattle.elf_parts.specs.gnu_symver.VersionEntry.{defined_with, required_with}
+use Rattle.elf_check.specs.versions.Indexes.{SoundVersionTable, TextDefinition, TextDefinitions, TextNeeds}
+use Rattle.elf_check.specs.versions.Indexes.{count_with_index}
 use Rattle.elf_check.specs.versions.Records.{IsText, IsTextAt}
 use Rattle.elf_records.proofs.Items.{lies}
 use Rattle.elf_records.proofs.Places.{item_at-below}
@@ -87,17 +88,17 @@ defined_texts view o index (Some found) text e = defined_text o index (view foun
 
 -- ---- which of both
 
-left_over : (a b : Bool) (d : Option Definition) (o : Option Requirement) → a ≡ false → b ≡ false → d ≡ None → IsSome (if a then Some LocalVersion else if b then Some GlobalVersion else option_map NamedVersion (entry_of d o)) → IsSome o
-left_over true b d o ha hb hn hs = absurd (cc ha)
-left_over false true d o ha hb hn hs = absurd (cc hb)
-left_over false false (Some r) o ha hb hn hs = absurd (cc hn)
-left_over false false None None ha hb hn hs = absurd (cc hs)
-left_over false false None (Some d) ha hb hn hs = refl
+left_over : (a b : Bool) (d : Option Definition) (o : Option Requirement) → a ≡ false → b ≡ false → d ≡ None → (if a then 1 else if b then 1 else from_bool (is_some d) + from_bool (is_some o)) ≡ 1 → IsSome o
+left_over true b d o ha hb hn one = absurd (cc ha)
+left_over false true d o ha hb hn one = absurd (cc hb)
+left_over false false (Some r) o ha hb hn one = absurd (cc hn)
+left_over false false None None ha hb hn one = absurd (omega (arith, one))
+left_over false false None (Some d) ha hb hn one = refl
 
-pub some_required : (versions : Versions) (index : VersionIndex) → version_index index ≢ 0 → version_index index ≢ 1 → defined_with versions.definitions index ≡ None → IsSome (version_with_index versions index) → IsSome (required_with versions.needs index)
-some_required versions index local global none some =
+pub some_required : (versions : Versions) (index : VersionIndex) → version_index index ≢ 0 → version_index index ≢ 1 → defined_with versions.definitions index ≡ None → count_with_index versions index ≡ 1 → IsSome (required_with versions.needs index)
+some_required versions index local global none one =
     left_over (version_index index == 0) (version_index index == 1) (defined_with versions.definitions index) (required_with versions.needs index)
-    (ne_eqb (version_index index) 0 local) (ne_eqb (version_index index) 1 global) none some
+    (ne_eqb (version_index index) 0 local) (ne_eqb (version_index index) 1 global) none one
 
 -- ---- which indexes can be read
 

@@ -82,7 +82,7 @@ table_of_section file chosen s v e sound =
     record {
       needs = of_found ver_needs SoundNeeds TextNeeds (λ strings t count sound. text_needs strings t (need_links t count) sound.chain.each) file chosen.needs v.needs made.needs sound.needs;
       definitions = of_found ver_defs SoundDefs TextDefinitions (λ strings t count sound. text_definitions strings t (def_links t count) sound.chain.each) file chosen.definitions v.definitions made.definitions sound.definitions;
-      indexes = (at_ok (SoundIndexesOf file) (versions_of file chosen s) v e sound.indexes).known;
+      indexes = (at_ok (SoundIndexesOf file) (versions_of file chosen s) v e sound.indexes).each;
     }
 
 -- what is sound of them

@@ -12,7 +12,7 @@ use Rattle.elf_parts.specs.gnu_symver.Records.{version_index_layout, version_ind
 use Rattle.elf_parts.specs.gnu_symver.Table.{Versions, index_of}
 use Rattle.elf_parts.specs.declared.gnu_symver.records.VersionIndex.{VersionIndex}
 use Rattle.elf_check.specs.Chains.{IsTrueOfChain, total_extent}
-use Rattle.elf_check.specs.versions.Indexes.{SoundIndexes, version_with_index}
+use Rattle.elf_check.specs.versions.Indexes.{IsTrueOfFirst, SoundIndexes, count_with_index}
 use Rattle.elf_check.specs.versions.Records.{SoundDef, SoundDefs, SoundNeed, SoundNeeds, def_extent, def_links}
 use Rattle.elf_check.specs.versions.Records.{need_extent, need_links}
 use Rattle.elf_check.proofs.ChainSteps.{true_chain}
@@ -22,12 +22,13 @@ use Rattle.elf.specs.ObjectFile.{ObjectFile, table_of}
 use Rattle.elf.specs.Versions.{versions_of}
 use Rattle.elf_reading.specs.Versions.{version_sections}
 use Rattle.elf_reading.specs.declared.versions.VersionSections.{VersionSections}
-use Rattle.elf_check.specs.versions.InFile.{IsTrueOfDefs, IsTrueOfVersions, IsTrueOfIndexSection, IsTrueOfIndexes}
+use Rattle.elf_check.specs.versions.InFile.{AreAsMany, IsTrueOfDefs, IsTrueOfVersions, IsTrueOfIndexSection}
+use Rattle.elf_check.specs.versions.InFile.{IsTrueOfIndexes}
 use Rattle.elf_check.specs.versions.InFile.{IsTrueOfNeeds, IsTrueOfVersionsOf, KnowsVersions, SoundDefsOf}
 use Rattle.elf_check.specs.versions.InFile.{SoundIndexSection, SoundIndexesOf, SoundNeedsOf, SoundVersions}
 use Rattle.elf_check.specs.versions.InFile.{SoundVersionsOf, with_strings}
 use Rattle.elf_check.specs.declared.faults.VersionsFault.{VersionsFault}
-use Rattle.elf_check.specs.declared.faults.VersionsFault.TheVariants.{CountOfIndexes, DefinitionsTooLong}
+use Rattle.elf_check.specs.declared.faults.VersionsFault.TheVariants.{AmbiguousIndex, CountOfIndexes, DefinitionsTooLong}
 use Rattle.elf_check.specs.declared.faults.VersionsFault.TheVariants.{DefinitionsUnreadable, FaultyDefinitions}
 use Rattle.elf_check.specs.declared.faults.VersionsFault.TheVariants.{FaultyNeeds}
 use Rattle.elf_check.specs.declared.faults.VersionsFault.TheVariants.{IndexesUnreadable, NeedsTooLong, NeedsUnreadable}
@@ -52,6 +53,13 @@ read_versions file chosen s v same here e =
     let one : k.0 ≡ v = cc k.2 in
     k.1 ∙ ap Ok one
 
+-- of the indexes alone, if they are as many as the symbols
+pub indexes_alone : (file : ObjectFile) (v : Versions) (r : Option VersionsFault) → AreAsMany file v → MatchOption r (SoundIndexes v) (IsTrueOfFirst v) → MatchOption r (SoundIndexesOf file v) (IsTrueOfIndexes file v)
+indexes_alone file v None many h = record { many = many; each = h }
+indexes_alone file v (Some NoDynamicSymbols) many h = absurd h
+indexes_alone file v (Some CountOfIndexes) many h = absurd h
+indexes_alone file v (Some fault) many h = (many, h)
+
 -- of the section of indexes alone
 pub index_section : (file : ObjectFile) (chosen : VersionSections) (s : SectionHeader) (v : Versions) (r : Option VersionsFault) → KnowsVersions file chosen → s.sh_size % version_index_reads.size file.class ≡ 0 → versions_of file chosen s ≡ Ok v → MatchOption r (SoundIndexesOf file v) (IsTrueOfIndexes file v) → MatchOption r (SoundIndexSection file chosen s) (IsTrueOfIndexSection file chosen s)
 index_section file chosen s v None known whole e h =
@@ -59,7 +67,8 @@ index_section file chosen s v None known whole e h =
 index_section file chosen s v (Some NoDynamicSymbols) known whole e h = (whole, known, ok_and (λ x. IsTrueOfIndexes file x NoDynamicSymbols) (versions_of file chosen s) v e h)
 index_section file chosen s v (Some CountOfIndexes) known whole e h = (whole, known, ok_and (λ x. IsTrueOfIndexes file x CountOfIndexes) (versions_of file chosen s) v e h)
 index_section file chosen s v (Some (UnknownIndex i)) known whole e h = (whole, known, ok_and (λ x. IsTrueOfIndexes file x (UnknownIndex i)) (versions_of file chosen s) v e h)
-index_section file chosen s v (Some fault) known whole e h = absurd h
+index_section file chosen s v (Some (AmbiguousIndex i)) known whole e h = (whole, known, ok_and (λ x. IsTrueOfIndexes file x (AmbiguousIndex i)) (versions_of file chosen s) v e h)
+index_section file chosen s v (Some fault) known whole e h = absurd h.1
 
 -- ---- a true fault
 
@@ -104,17 +113,21 @@ true_defs file s (FaultyDefinitions fault) sound t =
     (λ found is not. true_chain (λ x. x.vd_next) (SoundDef found.1 (table_of file found.0)) s.sh_info (def_links (table_of file found.0) s.sh_info) fault not.1 is.chain)
 true_defs file s fault sound t = t
 
-known_here : (v : Versions) (i : ℕ) (r : Result VersionIndex ParseError) → index_of v i ≡ r → SoundIndexes v → ok_map (version_with_index v) r ≡ Ok None → ⊥
-known_here v i (Ok version) e known none = let k = known i version e in cc (k, none)
-known_here v i (Err d) e known none = cc none
+one_here : (v : Versions) (count i : ℕ) (r : Result VersionIndex ParseError) → index_of v i ≡ r → SoundIndexes v → ok_map (count_with_index v) r ≡ Ok count → count ≡ 1
+one_here v count i (Ok version) e sound here = let one = sound i version e in cc (one, here)
+one_here v count i (Err d) e sound here = absurd (cc here)
+
+true_first : (v : Versions) (fault : VersionsFault) → SoundIndexes v → IsTrueOfFirst v fault → ⊥
+true_first v (UnknownIndex i) sound t = let one = one_here v 0 i (index_of v i) refl sound t.here in omega (arith, one)
+true_first v (AmbiguousIndex i) sound t = let one = one_here v 2 i (index_of v i) refl sound t.here in omega (arith, one)
+true_first v fault sound t = t
 
 pub true_indexes : (file : ObjectFile) (v : Versions) (fault : VersionsFault) → SoundIndexesOf file v → IsTrueOfIndexes file v fault → ⊥
 true_indexes file v NoDynamicSymbols sound t = t (not_some _ (dynamic_symbol_table file) sound.many)
 true_indexes file v CountOfIndexes sound t =
     both_and (λ found. IsSomeAnd found (λ symbols. table_len symbol_reads symbols.0 ≡ table_len version_index_reads v.indexes)) (λ found. IsSomeAnd found (λ symbols. table_len symbol_reads symbols.0 ≢ table_len version_index_reads v.indexes)) (dynamic_symbol_table file) sound.many t
     (λ found is not. both_there (λ symbols. table_len symbol_reads symbols.0 ≡ table_len version_index_reads v.indexes) (λ symbols. table_len symbol_reads symbols.0 ≢ table_len version_index_reads v.indexes) found is not (λ x same other. other same))
-true_indexes file v (UnknownIndex i) sound t = known_here v i (index_of v i) refl sound.known t.1.here
-true_indexes file v fault sound t = t
+true_indexes file v fault sound t = true_first v fault sound.each t.1
 
 pub true_index_section : (file : ObjectFile) (chosen : VersionSections) (s : SectionHeader) (fault : VersionsFault) → SoundIndexSection file chosen s → IsTrueOfIndexSection file chosen s fault → ⊥
 true_index_section file chosen s PartOfIndex sound t = t sound.whole

@@ -170,9 +170,13 @@ pub enum VersionsFault {
     /// There are not as many version indexes as symbols.
     #[error("not as many version indexes as symbols")]
     CountOfIndexes,
-    /// This is the first symbol whose index is that of no version.
+    /// This is the first symbol whose index is not that of exactly one version: none has it.
     #[error("symbol {symbol}: no version with its index")]
     UnknownIndex { symbol: usize },
+    /// This is the first symbol whose index is not that of exactly one version: the file defines one with it, and needs
+    /// one.
+    #[error("symbol {symbol}: a definition and a need with its index")]
+    AmbiguousIndex { symbol: usize },
 }
 
 /// Why a file is not sound.

@@ -31,7 +31,7 @@ use elf::headers::{Headers, VersionSections};
 use elf::parse::ParseAt;
 use elf::section::SectionHeader;
 use elf::string_table::StringTable;
-use indexes::first_unknown;
+use indexes::first_fault;
 
 // The bytes of a section, and the strings of the section that it links to.
 fn with_strings<'data, E: EndianParse>(
@@ -147,10 +147,7 @@ fn indexes_fault<'data, E: EndianParse>(
         return Some(VersionsFault::CountOfIndexes);
     }
     let versions = PlacedVersions::new(table, needed, defined);
-    match first_unknown(&versions, count) {
-        Some(symbol) => Some(VersionsFault::UnknownIndex { symbol }),
-        None => None,
-    }
+    first_fault(&versions, count)
 }
 
 // Whether the bytes of a section are a whole number of version indexes.

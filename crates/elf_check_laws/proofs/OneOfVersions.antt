@@ -1,5 +1,5 @@
 -- The versions of a file have one fault at most.
-use Rattle.std.proofs.Common.{◌≡◌, ◌≢◌, ℕ, zero, suc, ◌<◌, ◌≤◌, List, [], ◌∷◌, length, take, Option, Some, None, Result, Ok, Err, refl, ap, sym, inl, inr, arith}
+use Rattle.std.proofs.Common.{◌≡◌, ◌≢◌, ◌⊎◌, ℕ, zero, suc, ◌<◌, ◌≤◌, List, [], ◌∷◌, length, take, Option, Some, None, Result, Ok, Err, refl, ap, sym, subst, inl, inr, arith}
 use Rattle.std.specs.List.{AllByRecursion, slice_get}
 use Rattle.std.specs.Option.{IfSome, IsSome, IsSomeAnd}
 use Rattle.std.specs.Result.{IsErr, IsOk, IsOkAnd}
@@ -20,12 +20,12 @@ use Rattle.elf_check.specs.Chains.{IsTrueOfChain, total_extent}
 use Rattle.elf_check.specs.versions.InFile.{AreAsMany, IsTrueOfDefs, IsTrueOfIndexSection, IsTrueOfIndexes}
 use Rattle.elf_check.specs.versions.InFile.{IsTrueOfNeeds, IsTrueOfVersions, IsTrueOfVersionsOf, IsWhole, SoundDefsOf}
 use Rattle.elf_check.specs.versions.InFile.{SoundNeedsOf, with_strings}
-use Rattle.elf_check.specs.versions.Indexes.{IsFirstUnknown, version_with_index}
+use Rattle.elf_check.specs.versions.Indexes.{IsFirstWith, IsTrueOfFirst, count_with_index}
 use Rattle.elf_check.specs.versions.Records.{SoundDef, SoundNeed, def_extent, def_links, need_extent, need_links}
 use Rattle.elf_check.specs.declared.faults.ChainFault.{ChainFault}
 use Rattle.elf_check.specs.declared.faults.ChainFault.TheVariants.{At, NotLast, Short}
 use Rattle.elf_check.specs.declared.faults.VersionsFault.{VersionsFault}
-use Rattle.elf_check.specs.declared.faults.VersionsFault.TheVariants.{CountOfIndexes, DefinitionsTooLong}
+use Rattle.elf_check.specs.declared.faults.VersionsFault.TheVariants.{AmbiguousIndex, CountOfIndexes, DefinitionsTooLong}
 use Rattle.elf_check.specs.declared.faults.VersionsFault.TheVariants.{DefinitionsUnreadable, FaultyDefinitions}
 use Rattle.elf_check.specs.declared.faults.VersionsFault.TheVariants.{FaultyNeeds, IndexesUnreadable, NeedsTooLong}
 use Rattle.elf_check.specs.declared.faults.VersionsFault.TheVariants.{NeedsUnreadable, NoDynamicSymbols, PartOfIndex}
@@ -130,6 +130,7 @@ module _ (file : ObjectFile) (s : SectionHeader) where
   by_needs NoDynamicSymbols t = absurd t
   by_needs CountOfIndexes t = absurd t
   by_needs (UnknownIndex i) t = absurd t
+  by_needs (AmbiguousIndex i) t = absurd t
 
   one_needs_fault : IsOnce (IsTrueOfNeeds file s)
   one_needs_fault one other x y =
@@ -159,6 +160,7 @@ module _ (file : ObjectFile) (s : SectionHeader) where
   by_defs NoDynamicSymbols t = absurd t
   by_defs CountOfIndexes t = absurd t
   by_defs (UnknownIndex i) t = absurd t
+  by_defs (AmbiguousIndex i) t = absurd t
 
   one_defs_fault : IsOnce (IsTrueOfDefs file s)
   one_defs_fault one other x y =
@@ -166,13 +168,52 @@ module _ (file : ObjectFile) (s : SectionHeader) where
 
 -- ---- version indexes
 
-not_known : (v : Versions) (i : ℕ) (r : Result VersionIndex ParseError) → index_of v i ≡ r → ((version : VersionIndex) → index_of v i ≡ Ok version → IsSome (version_with_index v version)) → ok_map (version_with_index v) r ≡ Ok None → ⊥
-not_known v i (Ok version) e known none = let k = known version e in cc (k, none)
-not_known v i (Err d) e known none = cc none
+not_one : (v : Versions) (count i : ℕ) (r : Result VersionIndex ParseError) → count ≢ 1 → index_of v i ≡ r → ((version : VersionIndex) → index_of v i ≡ Ok version → count_with_index v version ≡ 1) → ok_map (count_with_index v) r ≡ Ok count → ⊥
+not_one v count i (Ok version) other e sound here = let one = sound version e in other (cc (one, here))
+not_one v count i (Err d) other e sound here = absurd (cc here)
 
-one_unknown : (v : Versions) → IsOnce (IsFirstUnknown v)
-one_unknown v i j x y =
-    one_number i j (λ less. not_known v i (index_of v i) refl (λ version e. y.before i version less e) x.here) (λ less. not_known v j (index_of v j) refl (λ version e. x.before j version less e) y.here)
+one_first : (v : Versions) (a b i j : ℕ) → a ≢ 1 → b ≢ 1 → IsFirstWith v a i → IsFirstWith v b j → i ≡ j
+one_first v a b i j p q x y =
+    one_number i j (λ less. not_one v a i (index_of v i) p refl (λ version e. y.before i version less e) x.here) (λ less. not_one v b j (index_of v j) q refl (λ version e. x.before j version less e) y.here)
+
+same_count : (v : Versions) (a b i j : ℕ) → a ≢ 1 → b ≢ 1 → IsFirstWith v a i → IsFirstWith v b j → a ≡ b
+same_count v a b i j p q x y =
+    let same = one_first v a b i j p q x y in
+    let here = subst (λ (k : ℕ). ok_map (count_with_index v) (index_of v k) ≡ Ok a) same x.here in
+    let there = y.here in
+    cc (here, there)
+
+abbrev ByKind : Versions → VersionsFault → Type 0
+ByKind v fault = IsMadeOf UnknownIndex (IsFirstWith v 0) fault ⊎ IsMadeOf AmbiguousIndex (IsFirstWith v 2) fault
+
+by_first : (v : Versions) (fault : VersionsFault) → IsTrueOfFirst v fault → ByKind v fault
+by_first v (UnknownIndex i) t = inl (i, refl, t)
+by_first v (AmbiguousIndex i) t = inr (i, refl, t)
+by_first v NeedsUnreadable t = absurd t
+by_first v NeedsTooLong t = absurd t
+by_first v (FaultyNeeds fault) t = absurd t
+by_first v DefinitionsUnreadable t = absurd t
+by_first v DefinitionsTooLong t = absurd t
+by_first v (FaultyDefinitions fault) t = absurd t
+by_first v PartOfIndex t = absurd t
+by_first v IndexesUnreadable t = absurd t
+by_first v NoDynamicSymbols t = absurd t
+by_first v CountOfIndexes t = absurd t
+
+not_zero : ◌≢◌ {A = ℕ} 0 1
+not_zero e = omega (arith, e)
+
+not_two : ◌≢◌ {A = ℕ} 2 1
+not_two e = omega (arith, e)
+
+one_of_kind : (v : Versions) (one other : VersionsFault) → ByKind v one → ByKind v other → one ≡ other
+one_of_kind v one other (inl p) (inl q) = one_made UnknownIndex (IsFirstWith v 0) (λ i j. one_first v 0 0 i j not_zero not_zero) one other p q
+one_of_kind v one other (inl p) (inr q) = let e = same_count v 0 2 p.0 q.0 not_zero not_two p.2 q.2 in absurd (omega (arith, e))
+one_of_kind v one other (inr p) (inl q) = let e = same_count v 2 0 p.0 q.0 not_two not_zero p.2 q.2 in absurd (omega (arith, e))
+one_of_kind v one other (inr p) (inr q) = one_made AmbiguousIndex (IsFirstWith v 2) (λ i j. one_first v 2 2 i j not_two not_two) one other p q
+
+one_true_first : (v : Versions) → IsOnce (IsTrueOfFirst v)
+one_true_first v one other x y = one_of_kind v one other (by_first v one x) (by_first v other y)
 
 is_some : {A : Type 0} (P : A → Type 0) (o : Option A) → IsSomeAnd o P → IsSome o
 is_some P (Some x) h = refl
@@ -189,7 +230,7 @@ module _ (file : ObjectFile) (v : Versions) where
   HasSymbols = IsOkAnd (dynamic_symbol_table file) (λ found. IsSome found)
 
   abbrev ByMany : VersionsFault → Type 0
-  ByMany = ByStage (AreAsMany file v) (IsKnown CountOfIndexes) (IsMadeOf UnknownIndex (IsFirstUnknown v))
+  ByMany = ByStage (AreAsMany file v) (IsKnown CountOfIndexes) (IsTrueOfFirst v)
 
   has_symbols : (P : Table × List ℕ → Type 0) → IsOkAnd (dynamic_symbol_table file) (λ found. IsSomeAnd found P) → HasSymbols
   has_symbols P t = weaker (λ found. IsSomeAnd found P) (λ found. IsSome found) (dynamic_symbol_table file) (λ found h. is_some P found h) t
@@ -202,19 +243,20 @@ module _ (file : ObjectFile) (v : Versions) where
   by_symbols : (fault : VersionsFault) → IsTrueOfIndexes file v fault → ByStage HasSymbols (IsKnown NoDynamicSymbols) ByMany fault
   by_symbols NoDynamicSymbols t = inl (t, refl)
   by_symbols CountOfIndexes t = inr (has_symbols NotAsMany t, inl (not_many t, refl))
-  by_symbols (UnknownIndex i) t = inr (has_symbols AsMany t.0, inr (t.0, (i, refl, t.1)))
-  by_symbols NeedsUnreadable t = absurd t
-  by_symbols NeedsTooLong t = absurd t
-  by_symbols (FaultyNeeds fault) t = absurd t
-  by_symbols DefinitionsUnreadable t = absurd t
-  by_symbols DefinitionsTooLong t = absurd t
-  by_symbols (FaultyDefinitions fault) t = absurd t
-  by_symbols PartOfIndex t = absurd t
-  by_symbols IndexesUnreadable t = absurd t
+  by_symbols (UnknownIndex i) t = inr (has_symbols AsMany t.0, inr t)
+  by_symbols (AmbiguousIndex i) t = inr (has_symbols AsMany t.0, inr t)
+  by_symbols NeedsUnreadable t = absurd t.1
+  by_symbols NeedsTooLong t = absurd t.1
+  by_symbols (FaultyNeeds fault) t = absurd t.1
+  by_symbols DefinitionsUnreadable t = absurd t.1
+  by_symbols DefinitionsTooLong t = absurd t.1
+  by_symbols (FaultyDefinitions fault) t = absurd t.1
+  by_symbols PartOfIndex t = absurd t.1
+  by_symbols IndexesUnreadable t = absurd t.1
 
   one_index_fault : IsOnce (IsTrueOfIndexes file v)
   one_index_fault one other x y =
-      let many = one_by_stage (AreAsMany file v) (IsKnown CountOfIndexes) (IsMadeOf UnknownIndex (IsFirstUnknown v)) (one_known CountOfIndexes) (one_made UnknownIndex (IsFirstUnknown v) (one_unknown v)) in
+      let many = one_by_stage (AreAsMany file v) (IsKnown CountOfIndexes) (IsTrueOfFirst v) (one_known CountOfIndexes) (one_true_first v) in
       one_by_stage HasSymbols (IsKnown NoDynamicSymbols) ByMany (one_known NoDynamicSymbols) many one other (by_symbols one x) (by_symbols other y)
 
 module _ (file : ObjectFile) (chosen : VersionSections) (s : SectionHeader) where
@@ -240,6 +282,7 @@ module _ (file : ObjectFile) (chosen : VersionSections) (s : SectionHeader) wher
   by_whole NoDynamicSymbols t = in_indexes NoDynamicSymbols t.0 t.2
   by_whole CountOfIndexes t = in_indexes CountOfIndexes t.0 t.2
   by_whole (UnknownIndex i) t = in_indexes (UnknownIndex i) t.0 t.2
+  by_whole (AmbiguousIndex i) t = in_indexes (AmbiguousIndex i) t.0 t.2
   by_whole NeedsUnreadable t = in_indexes NeedsUnreadable t.0 t.2
   by_whole NeedsTooLong t = in_indexes NeedsTooLong t.0 t.2
   by_whole (FaultyNeeds fault) t = in_indexes (FaultyNeeds fault) t.0 t.2

@@ -2,6 +2,7 @@ pub mod Requirements
 pub mod Tables
 pub mod Missing
 pub mod Naming
+mod Copying
 pub mod BySegments
 pub mod Linked
 pub mod Whole

@@ -1,18 +1,30 @@
 -- The names of objects, the search for a name, and the loaders of an object, one step at a time.
-use Rattle.std.proofs.Common.{◌≡◌, ℕ, zero, suc, ◌-◌, ◌<◌, ◌==◌, Bool, true, false, ◌||◌, cond, List, [], ◌∷◌, ◌++◌, Option, Some, None, IfSome, Ordering, Less, Equal, Greater, is_eq, nat_cmp, Vec, refl, sym, ap, ◌∙◌, subst, arith}
+use Rattle.std.proofs.Common.{◌≡◌, ℕ, zero, suc, ◌-◌, ◌<◌, ◌==◌, Bool, true, false, ◌||◌, ◌&&◌, cond, List, [], ◌∷◌, ◌++◌, map, Option, Some, None, IfSome, Ordering, Less, Equal, Greater, is_eq, nat_cmp, Vec, get_or, length, drop, ◌+◌, refl, sym, ap, ◌∙◌, subst, arith, rules}
 use Rattle.std.specs.Prelude.{is_some}
 use Rattle.std.specs.Option.{option_map}
-use Rattle.std.specs.BTreeSet.{insert_key}
+use Rattle.std.specs.BTreeSet.{contains_by, insert_key}
 use Rattle.std.specs.BTreeMap.{is_at}
+use Rattle.std.specs.Cmp.{tied_then}
 use Rattle.std.specs.Cmp.Lexicographic.{slice_cmp}
 use Rattle.std.specs.List.{list_any}
-use Rattle.std.specs.Ordering.{match_ordering}
+use Rattle.std.specs.Ordering.{match_ordering, ordering_then}
 use Rattle.std.specs.Str.{bytes_eq}
 use Rattle.std.specs.Vec.{vec_items}
+use Rattle.std.proofs.lemmas.List.{drop_more, map-append}
+use Rattle.std.proofs.lemmas.Map.Lookups.{exact_pairs, exact_unsigned}
 use Rattle.std.proofs.lemmas.Map.Text.{is_eq-slice_cmp}
 use Rattle.std.proofs.lemmas.Slice.Eq.{bytes_eq-Decides}
-use Rattle.elf_linking.specs.Tree.{Entry, Found, first_fitting, fitting, loader_at, loader_places, or_next}
+use Rattle.elf_linking.specs.Needed.{library_view, name_bytes}
+use Rattle.elf_linking.specs.Search.{Places, Tokens, expansion}
+use Rattle.elf_linking.specs.Tree.{Entry, Found, Loading, entry_view, expanded, first_fitting, fitting, identity_of, is_object, load, load_all}
+use Rattle.elf_linking.specs.Tree.{loader_at, loader_places, names_of}
+use Rattle.elf_linking.specs.Tree.{or_next, same_file}
+use Rattle.elf_linking.specs.inner.LoadedNames.{AreNamesOf, has_file, has_name, has_object}
+use Rattle.elf_linking.specs.declared.needed.Library.{Library}
+use Rattle.elf_linking.specs.declared.tree.Identity.{Identity}
 use Rattle.elf_linking.specs.declared.tree.Kind.{Kind}
+use Rattle.elf_linking.specs.declared.tree.Object.{Object}
+use Rattle.elf_linking.specs.declared.tree.names.LoadedNames.{LoadedNames}
 
 -- ---- what is known
 
@@ -64,6 +76,73 @@ name_added name key keys =
     (λ x e. ap (λ bytes. is_eq (slice_cmp nat_cmp name bytes)) (equal_items (vec_items key) (vec_items x) e)) keys
     ∙ ap (λ b. b || list_any test keys) (is_eq-slice_cmp name (vec_items key))
 
+-- a look-up of a file after this one was added
+abbrev pub file_cmp : ℕ × ℕ → ℕ × ℕ → Ordering
+file_cmp a b = ordering_then (nat_cmp a.0 b.0) (nat_cmp a.1 b.1)
+
+nat_tied : (a b : ℕ) → is_eq (nat_cmp a b) ≡ (a == b)
+nat_tied = search rules
+
+same_numbers : (a b : ℕ × ℕ) → is_eq (file_cmp a b) ≡ ((a.0 == b.0) && (a.1 == b.1))
+same_numbers a b =
+    sym (tied_then (nat_cmp a.0 b.0) (nat_cmp a.1 b.1))
+    ∙ ap (λ c. c && is_eq (nat_cmp a.1 b.1)) (nat_tied a.0 b.0) ∙ ap (λ c. (a.0 == b.0) && c) (nat_tied a.1 b.1)
+
+pub file_added : (file key : ℕ × ℕ) (keys : List (ℕ × ℕ))
+    → list_any (is_at (file_cmp file)) (insert_key file_cmp keys key)
+    ≡ (((file.0 == key.0) && (file.1 == key.1)) || list_any (is_at (file_cmp file)) keys)
+file_added file key keys =
+    let test = is_at (file_cmp file) in
+    any_inserted file_cmp test key (λ x e. ap test (exact_pairs nat_cmp nat_cmp exact_unsigned exact_unsigned key x e)) keys
+    ∙ ap (λ b. b || list_any test keys) (same_numbers file key)
+
+-- ---- the names and the files of objects
+
+names_same : (a b : LoadedNames) → a.set ≡ b.set → (name : List ℕ) → has_name a name ≡ has_name b name
+names_same a b is name = ap (contains_by (λ key. slice_cmp nat_cmp name (vec_items key))) is
+
+files_same : (a b : LoadedNames) → a.files ≡ b.files → (identity : Option Identity) → has_file a identity ≡ has_file b identity
+files_same a b is None = refl
+files_same a b is (Some identity) =
+    ap (contains_by (λ key. ordering_then (nat_cmp identity.device key.0) (nat_cmp identity.inode key.1))) is
+
+pub file_listed : (old new : LoadedNames) (added : Identity) → new.files.keys ≡ insert_key file_cmp old.files.keys (added.device, added.inode)
+    → (identity : Option Identity) → has_file new identity ≡ (same_file identity (Some added) || has_file old identity)
+file_listed old new added is None = refl
+file_listed old new added is (Some identity) =
+    let file : ℕ × ℕ = (identity.device, identity.inode) in
+    ap (list_any (is_at (file_cmp file))) is ∙ file_added file (added.device, added.inode) old.files.keys
+
+or_both : (a s n f : Bool) → ((a || n) || (s || f)) ≡ ((a || s) || (n || f))
+or_both true s n f = refl
+or_both false true true f = refl
+or_both false true false f = refl
+or_both false false true f = refl
+or_both false false false f = refl
+
+-- the names of an object and its file were added
+pub object_listed : (old named new : LoadedNames) (e : Entry)
+    → ((name : List ℕ) → has_name named name ≡ (list_any (bytes_eq name) (names_of e) || has_name old name)) → named.files ≡ old.files
+    → ((identity : Option Identity) → has_file new identity ≡ (same_file identity (identity_of e.file) || has_file named identity)) → new.set ≡ named.set
+    → (name : List ℕ) (identity : Option Identity) → has_object new name identity ≡ (is_object name identity e || has_object old name identity)
+object_listed old named new e names files added sets name identity =
+    ap (λ b. b || has_file new identity) (names_same new named sets name ∙ names name)
+    ∙ ap (λ b. (list_any (bytes_eq name) (names_of e) || has_name old name) || b) (added identity ∙ ap (λ b. same_file identity (identity_of e.file) || b) (files_same named old files identity))
+    ∙ or_both (list_any (bytes_eq name) (names_of e)) (same_file identity (identity_of e.file)) (has_name old name) (has_file old identity)
+
+any_last : {X : Type 0} (test : X → Bool) (xs : List X) (x : X) → (test x || list_any test xs) ≡ list_any test (xs ++ x ∷ [])
+any_last test [] x = refl
+any_last test (y ∷ xs) x = or_swap (test x) (test y) (list_any test xs) ∙ ap (λ b. test y || b) (any_last test xs x)
+
+-- an object that comes last
+pub object_loaded : (old new : LoadedNames) (objects : List Object) (o : Object) → AreNamesOf old (map entry_view objects)
+    → ((name : List ℕ) (identity : Option Identity) → has_object new name identity ≡ (is_object name identity (entry_view o) || has_object old name identity))
+    → AreNamesOf new (map entry_view (objects ++ o ∷ []))
+object_loaded old new objects o of added name identity =
+    let test = is_object name identity in
+    added name identity ∙ ap (λ b. test (entry_view o) || b) (of name identity) ∙ any_last test (map entry_view objects) (entry_view o)
+    ∙ ap (list_any test) (sym (map-append entry_view objects (o ∷ [])))
+
 -- ---- the search for a name
 
 or_none : (found : Option Found) → or_next found None ≡ found
@@ -112,6 +191,24 @@ module _ (opened : List ℕ → Option Found) (kind : Kind) where
   pub first_later : (path : List ℕ) (paths : List (List ℕ)) → fitting kind (opened path) ≡ None
       → first_fitting opened kind (path ∷ paths) ≡ first_fitting opened kind paths
   first_later path paths is = ap (λ o. or_next o (first_fitting opened kind paths)) is
+
+-- ---- the libraries of an object, one more
+
+module _ (opened : List ℕ → Option Found) (kind : Kind) (places : Places) (place : ℕ) (tokens : Tokens) (strings : List ℕ) where
+  abbrev pub after_all : Loading → List Library → Loading
+  after_all s libraries = load_all opened kind places place s (map (expanded tokens) (map (library_view strings) libraries))
+
+  pub one_loaded : (items libraries : List Library) (i : ℕ) (d : Library) (name bytes : List ℕ) (s next : Loading) → i < length items → items ≡ libraries
+      → name ≡ expansion tokens bytes → bytes ≡ name_bytes strings (get_or items i d).name
+      → next ≡ load opened kind places place s (record { role = (get_or items i d).role; name = name })
+      → after_all next (drop (i + 1) libraries) ≡ after_all s (drop i libraries)
+  one_loaded items libraries i d name bytes s next within same name_is bytes_are is =
+      let library = get_or items i d in
+      let spelled : name ≡ expansion tokens (name_bytes strings library.name) = name_is ∙ ap (expansion tokens) bytes_are in
+      let named : next ≡ load opened kind places place s (expanded tokens (library_view strings library)) =
+      is ∙ ap (λ (n : List ℕ). load opened kind places place s (record { role = library.role; name = n })) spelled in
+      subst (λ (l : List Library). after_all next (drop (i + 1) l) ≡ after_all s (drop i l)) same
+      (ap (λ (n : Loading). after_all n (drop (i + 1) items)) named ∙ ap (after_all s) (sym (drop_more items i d within)))
 
 -- ---- the loaders
 

@@ -3,6 +3,8 @@ use Rattle.std.proofs.Common.{◌≡◌, ◌⊎◌, inl, inr, ℕ, ◌-◌, Bool
 use Rattle.std.specs.List.{filter}
 use Rattle.std.specs.Prelude.{Result}
 use Rattle.elf_records.specs.declared.parse.ParseError.{ParseError}
+use Rattle.elf_reading.specs.Refusals.{IsRefused, Kind}
+use Rattle.elf_reading.proofs.steps.Ranges.{refused_so}
 use Rattle.elf.proofs.stream.Steps.{keeps_then}
 use Rattle.elf.proofs.stream.There.{requested_in}
 use Rattle.elf.specs.ElfStream.{IsCached, IsRequested, Keeps, Left, StreamView, lies_in}
@@ -24,7 +26,7 @@ module _ {E : Type 0} (little : E → Bool) (Misses : FileOf Partial → ℕ × 
 
   pub nothing_loaded : (s : StreamView E) → Loading s s
   nothing_loaded s = record {
-    keeps = record { content = refl; can_fail = refl; headers = refl; size = refl; cached = λ start end h. h };
+    keeps = record { content = refl; can_fail = refl; by_segments = refl; headers = refl; size = refl; cached = λ start end h. h };
     only = λ low high h. inl h;
     moved = inl refl;
   }
@@ -51,6 +53,16 @@ module _ {E : Type 0} (little : E → Bool) (Misses : FileOf Partial → ℕ × 
       moved = inr missed_first;
     }
 
+  -- what holds now held at first, or something was missing then
+  first_by : (P : FileOf Partial → Type 0) (old now : StreamView E) → (now ≡ old) ⊎ ((range : ℕ × ℕ) × Misses (loaded_part little old) range)
+      → ((range : ℕ × ℕ) → Misses (loaded_part little old) range → P (loaded_part little old)) → P (loaded_part little now) → P (loaded_part little old)
+  first_by P old now (inl same) if_missed h = subst (λ s. P (loaded_part little s)) same h
+  first_by P old now (inr missed) if_missed h = if_missed missed.0 missed.1
+
+  pub held_first : (P : FileOf Partial → Type 0) (old now : StreamView E) → Loading old now
+      → ((range : ℕ × ℕ) → Misses (loaded_part little old) range → P (loaded_part little old)) → P (loaded_part little now) → P (loaded_part little old)
+  held_first P old now so_far if_missed h = first_by P old now so_far.moved if_missed h
+
   untouched_by : (old now : StreamView E) → (now ≡ old) ⊎ ((range : ℕ × ℕ) × Misses (loaded_part little old) range) → ((range : ℕ × ℕ) → Misses (loaded_part little old) range → ⊥) → now ≡ old
   untouched_by old now (inl same) none = same
   untouched_by old now (inr missed) none = absurd (none missed.0 missed.1)
@@ -70,3 +82,11 @@ same_failures old middle new keeps first then =
     all_same : (known : Option (List ℕ)) (before between now : ℕ) → IfSome known (λ bytes. between ≡ before) → IfSome known (λ bytes. now ≡ between) → IfSome known (λ bytes. now ≡ before)
     all_same None before between now a b = tt
     all_same (Some bytes) before between now a b = b ∙ a
+
+-- a step has failed, and none before it
+pub load_refused : {E : Type 0} (old middle : StreamView E) → Keeps old middle → (known : Option (List ℕ)) (later : ℕ) (k : Kind) (P : List ℕ → Type 0)
+    → IfSome known (λ bytes. middle.failures ≡ old.failures) → IfSome known (λ bytes. IsRefused middle.failures later middle.can_fail ⊥ k)
+    → IfSome known (λ bytes. IsRefused old.failures later old.can_fail (P bytes) k)
+load_refused old middle keeps None later k P same h = tt
+load_refused old middle keeps (Some bytes) later k P same h =
+    subst (λ can_fail. IsRefused old.failures later can_fail (P bytes) k) keeps.can_fail (refused_so k ⊥ (P bytes) old.failures middle.failures later middle.can_fail (λ h. absurd h) same h)

@@ -1,12 +1,12 @@
 -- The names of a partly loaded file.
-use Rattle.std.proofs.Common.{◌≡◌, inl, inr, ℕ, Bool, false, List, Result, Err, Option, Some, None, refl, ap, sym, subst, ◌∙◌, true≢false}
-use Rattle.std.specs.Prelude.{IfSome}
+use Rattle.std.proofs.Common.{◌≡◌, inl, inr, ℕ, Bool, false, List, Result, Ok, Err, Option, Some, None, refl, ap, sym, subst, ◌∙◌, true≢false}
+use Rattle.std.specs.Prelude.{◌≢◌, IfErr, IfSome}
 use Rattle.std.specs.Option.{option_map}
 use Rattle.elf_records.specs.declared.dynamic.Dyn.{Dyn}
 use Rattle.elf_records.specs.declared.parse.ParseError.{ParseError}
 use Rattle.elf.specs.Answers.{dynamic}
 use Rattle.elf.specs.ElfStream.{Keeps, StreamView}
-use Rattle.elf_reading.specs.Refusals.{IsRefused, kind}
+use Rattle.elf_reading.specs.Refusals.{IsRefused, Kind}
 use Rattle.elf.specs.Headers.{if_found}
 use Rattle.elf.specs.Loaded.{AreLoadedOf, is_not_cached, loaded_ranges}
 use Rattle.elf.specs.ObjectFile.{FileOf, ObjectFile, Partial, Whole}
@@ -18,8 +18,9 @@ use Rattle.elf.proofs.stream.Parted.{streamed_loaded}
 use Rattle.elf_dynamic.specs.dynamic_view.Entries.{entries_in}
 use Rattle.elf_dynamic.proofs.Following.{found_follows, read_follows, then_follows}
 use Rattle.elf_linking.specs.Missing.{loaded_part}
-use Rattle.elf_linking.specs.Needed.{IsAnswered, IsNamesAnswer, Named, NamesFollow, entries_of, missing_of}
-use Rattle.elf_linking.specs.Needed.{names, names_by, names_in, read_error, string_part, strings_by}
+use Rattle.elf_linking.specs.Needed.{IsAnswered, MissesNames, Named, NamesFollow, entries_of, missing_of}
+use Rattle.elf_linking.specs.Needed.{names, names_by, names_in, names_kind, read_error, string_part, strings_by}
+use Rattle.elf_linking.specs.Readings.{IsReading}
 use Rattle.elf_linking.specs.declared.needed.NamesError.{NamesError}
 use Rattle.elf_linking.specs.declared.needed.NamesError.TheVariants.{Memory, Missing, Name, NoAddress, NoSize}
 use Rattle.elf_linking.specs.declared.needed.NamesError.TheVariants.{NotLoaded, Read}
@@ -63,6 +64,9 @@ whole_error shown whole (Name e) is some = sym is ∙ whole_names whole
 
 -- ---- a stream
 
+is_not_refusal : Kind.AllocationFailure ≡ Kind.Refusal → ⊥
+is_not_refusal h = cc h
+
 module _ {T : Type 0} (shown : T → Option Named) where
   -- what is missing, if that is the error; and else nothing is
   pub missed_of : (answer : Result (Option Named) NamesError) (r : Result T NamesError) (range : ℕ × ℕ) → IsAnswered shown answer r → missing_of r ≡ Some range → answer ≡ Err (Missing range)
@@ -79,6 +83,32 @@ module _ {T : Type 0} (shown : T → Option Named) where
   answered is_missing whole one r (inl h) is none = subst (λ p. IsAnswered shown p r) h is
   answered is_missing whole one r (inr h) is none = none_missed whole h.0 r (subst (λ p. IsAnswered shown p r) h.2 is) none
 
+  -- an answer, and no source has failed
+  answered_reading : (answer : Result (Option Named) NamesError) (can_fail : Bool) (before now : ℕ) (r : Result T NamesError) → now ≡ before → IsAnswered shown answer r → IsReading names_kind shown answer can_fail before now r
+  answered_reading answer can_fail before now (Ok x) same is = (same, is)
+  answered_reading answer can_fail before now (Err Memory) same is = same
+  answered_reading answer can_fail before now (Err (Read e)) same is = subst (IsRefused before now can_fail (answer ≡ Err (Read e))) (sym is.1) (same, is.0)
+  answered_reading answer can_fail before now (Err (Missing range)) same is = (same, is)
+  answered_reading answer can_fail before now (Err NoAddress) same is = (same, is)
+  answered_reading answer can_fail before now (Err NoSize) same is = (same, is)
+  answered_reading answer can_fail before now (Err (NotLoaded a)) same is = (same, is)
+  answered_reading answer can_fail before now (Err (Name e)) same is = (same, is)
+
+  -- the only allocation failure of an answer
+  pub answered_memory : (answer : Result (Option Named) NamesError) (r : Result T NamesError) (P : Type 0) → IsAnswered shown answer r → (r ≡ Err Memory → P) → IfErr r (λ e. names_kind e ≡ Kind.AllocationFailure → P)
+  answered_memory answer (Ok x) P is memory = tt
+  answered_memory answer (Err Memory) P is memory = λ k. memory refl
+  answered_memory answer (Err (Read e)) P is memory = λ k. absurd (is_not_refusal (sym k ∙ is.1))
+  answered_memory answer (Err (Missing range)) P is memory = λ k. absurd (is_not_refusal (sym k))
+  answered_memory answer (Err NoAddress) P is memory = λ k. absurd (is_not_refusal (sym k))
+  answered_memory answer (Err NoSize) P is memory = λ k. absurd (is_not_refusal (sym k))
+  answered_memory answer (Err (NotLoaded a)) P is memory = λ k. absurd (is_not_refusal (sym k))
+  answered_memory answer (Err (Name e)) P is memory = λ k. absurd (is_not_refusal (sym k))
+
+-- what is missing is something
+pub missed_names : (part : FileOf Partial) (range : ℕ × ℕ) → MissesNames part range → names part ≢ Ok None
+missed_names part range missed = λ none. cc (missed, none)
+
 -- what was loaded for it so far changes nothing of the file
 module _ {E : Type 0} (little : E → Bool) (old now : StreamView E) (keeps : Keeps old now) where
   same_file : (bytes : List ℕ) → stream_file little now bytes ≡ stream_file little old bytes
@@ -91,14 +121,9 @@ module _ {E : Type 0} (little : E → Bool) (old now : StreamView E) (keeps : Ke
   ranges_of_old bytes h = subst (λ file. ArePartOf file (is_not_cached now) (loaded_ranges now)) (same_file bytes) h.part
 
   pub stream_answered : {T : Type 0} (known : Option (List ℕ)) (shown : T → Option Named) (r : Result T NamesError) → IfSome known (λ bytes. AreLoadedOf little now bytes) → IfSome known (λ bytes. now.failures ≡ old.failures) → IsAnswered shown (names (loaded_part little now)) r → missing_of r ≡ None
-      → IfSome known (λ bytes. IsNamesAnswer shown (names (stream_file little old bytes)) old.can_fail old.failures now.failures r)
+      → IfSome known (λ bytes. IsReading names_kind shown (names (stream_file little old bytes)) old.can_fail old.failures now.failures r)
   stream_answered None shown r of same is none = tt
   stream_answered (Some bytes) shown r of same is none =
       let whole = stream_file little old bytes in
       let part = subst (λ p. IsAnswered shown (names p) r) (part_of_old bytes of) is in
-      inl (same, answered shown (is_not_cached now) (names whole) (names (loaded whole (loaded_ranges now))) r (names_follow whole (loaded_ranges now) (is_not_cached now) (ranges_of_old bytes of)) part none)
-
-  pub load_refused : {T : Type 0} (shown : T → Option Named) (known : Option (List ℕ)) (later : ℕ) (e : ParseError) → IfSome known (λ bytes. now.failures ≡ old.failures) → IfSome known (λ bytes. IsRefused now.failures later now.can_fail ⊥ (kind e)) → IfSome known (λ bytes. IsNamesAnswer shown (names (stream_file little old bytes)) old.can_fail old.failures later (Err (Read e)))
-  load_refused shown None later e same h = tt
-  load_refused shown (Some bytes) later e same h =
-      inr (e, refl, subst (λ b. IsRefused old.failures later b ⊥ (kind e)) keeps.can_fail (subst (λ n. IsRefused n later now.can_fail ⊥ (kind e)) same h))
+      answered_reading shown (names whole) old.can_fail old.failures now.failures r same (answered shown (is_not_cached now) (names whole) (names (loaded whole (loaded_ranges now))) r (names_follow whole (loaded_ranges now) (is_not_cached now) (ranges_of_old bytes of)) part none)

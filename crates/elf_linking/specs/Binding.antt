@@ -1,4 +1,4 @@
--- Which symbol of which object a reference binds to, if symbols have versions: by the rules of GNU symbol versioning
+-- The symbol, and its object, that a reference binds to, if symbols have versions: by the rules of GNU symbol versioning
 -- (LSB, "Symbol Versioning"), and by the dynamic linker of the GNU C library in the cases that these rules leave open.
 use Rattle.std.specs.Prelude.{◌≡◌, ℕ, ◌<◌, if◌then◌else◌, ◌==◌, ◌&&◌, ◌||◌, not, nat_lt, Bool, bit_and}
 use Rattle.std.specs.Prelude.{List, [], ◌∷◌, length, slice_get, Option, Some, None, ok_or, Result, Ok, Err, MatchBool}

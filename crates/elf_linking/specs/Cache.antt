@@ -1,7 +1,7 @@
 -- The cache of the dynamic linker of glibc, /etc/ld.so.cache, which the program ldconfig writes: libraries by their names,
 -- with their paths (glibc, sysdeps/generic/dl-cache.h; its look-up is in elf/dl-cache.c).
-use Rattle.std.specs.Prelude.{ℕ, ◌+◌, ◌*◌, ◌/◌, ◌%◌, ◌==◌, ◌&&◌, ◌||◌, Bool, false, if◌then◌else◌, is_ok}
-use Rattle.std.specs.Prelude.{List, [], ◌∷◌, codes, drop, slice_index, Option, Some, None, Result, Ok, Err, refl}
+use Rattle.std.specs.Prelude.{ℕ, ◌+◌, ◌*◌, ◌/◌, ◌%◌, ◌^◌, ◌==◌, ◌&&◌, ◌||◌, Bool, false, if◌then◌else◌, is_ok}
+use Rattle.std.specs.Prelude.{List, [], ◌∷◌, codes, drop, position, slice_index, Option, Some, None, Result, Ok, Err, refl}
 use Rattle.std.specs.List.{find, list_any, starts_with}
 use Rattle.std.specs.Result.{result_ok}
 use Rattle.std.specs.Str.{bytes_eq}
@@ -14,11 +14,13 @@ use Rattle.elf_records.specs.Table.{Table, table_in, table_items, table_view}
 use Rattle.elf_records.specs.declared.file.Class.{Class}
 use Rattle.elf_records.specs.declared.file.Class.TheVariants.{ELF32, ELF64}
 use Rattle.elf_records.specs.declared.parse.ParseError.{ParseError}
+use Rattle.elf_records.specs.Word.{u32_reads}
 use Rattle.elf_records.specs.inner.RecordLaws.{by_layout}
 use Rattle.elf_linking.specs.declared.cache.CacheEntry.{CacheEntry}
 use Rattle.elf_linking.specs.declared.cache.CacheError.{CacheError}
 use Rattle.elf_linking.specs.declared.cache.CacheError.TheVariants.{ByteOrder, Magic, OldFormat, Read}
 use Rattle.elf_linking.specs.declared.cache.CacheHeader.{CacheHeader}
+use Rattle.elf_linking.specs.declared.cache.ExtensionSection.{ExtensionSection}
 use Rattle.elf_linking.specs.declared.cache.LibraryFlags.{LibraryFlags}
 use Rattle.elf_linking.specs.declared.cache.LinkerCache.{LinkerCache}
 
@@ -108,20 +110,83 @@ entry_layout = record { fields = λ _. entry_fields; make = λ _ n. entry n }
 abbrev pub entry_reads : RecordType CacheEntry
 entry_reads = by_layout entry_layout refl
 
--- ---- a cache: the bytes in which its strings are found, by their offsets from its start, and its entries
+-- ---- the directory of extensions, struct cache_extension: a magic number, how many sections follow, and these, each a
+-- struct cache_extension_section
+
+-- what has another magic number is no directory
+abbrev pub section_count : Bool → List ℕ → ℕ → Result ℕ ParseError
+section_count little bytes offset =
+    number_at little 4 bytes offset >>= λ magic.
+    if magic == 0xeaa42174 then number_at little 4 bytes (offset + 4) else Ok 0
+
+abbrev pub section_fields : List Field
+section_fields =
+    field 0 4 ∷  -- tag
+    field 4 4 ∷  -- flags
+    field 8 4 ∷  -- offset
+    field 12 4 ∷  -- size
+    []
+
+abbrev pub section : List ℕ → ExtensionSection
+section n = record {
+  tag = slice_index n 0;
+  flags = slice_index n 1;
+  offset = slice_index n 2;
+  size = slice_index n 3;
+}
+
+-- the same in both classes
+abbrev pub section_layout : Layout ExtensionSection
+section_layout = record { fields = λ _. section_fields; make = λ _ n. section n }
+
+abbrev pub section_reads : RecordType ExtensionSection
+section_reads = by_layout section_layout refl
+
+abbrev pub section_bytes : Bool → List ℕ → ℕ → Result (List ℕ) ParseError
+section_bytes little bytes offset =
+    section_count little bytes offset >>= λ count. bytes_at (16 * count) bytes (offset + 8)
+
+abbrev pub sections_in : Bool → List ℕ → List ExtensionSection
+sections_in little bytes = table_items section_reads (table_in little ELF64 bytes)
+
+-- the section with the tag cache_extension_tag_glibc_hwcaps
+abbrev pub has_hwcaps : ExtensionSection → Bool
+has_hwcaps s = s.tag == 1
+
+abbrev pub content_of : List ℕ → Option ExtensionSection → Result (List ℕ) ParseError
+content_of bytes None = Ok []
+content_of bytes (Some s) = bytes_at s.size bytes s.offset
+
+-- the offsets of the names of subfolders of glibc-hwcaps; none, if there is no such section or it cannot be read
+abbrev pub hwcap_bytes : Bool → List ℕ → ℕ → Result (List ℕ) ParseError
+hwcap_bytes little bytes offset =
+    section_bytes little bytes offset >>= λ sections. content_of bytes (find has_hwcaps (sections_in little sections))
+
+abbrev pub or_empty : Result (List ℕ) ParseError → List ℕ
+or_empty (Ok bytes) = bytes
+or_empty (Err e) = []
+
+-- ---- a cache: the bytes in which its strings are found, by their offsets from its start, its entries, and the offsets of
+-- the names of subfolders of glibc-hwcaps
 pub record Cache : Type 0 where
   pub bytes : List ℕ
   pub entries : Table
+  pub hwcaps : Table
 
 abbrev pub entry_bytes : List ℕ → CacheHeader → Result (List ℕ) ParseError
 entry_bytes bytes h = bytes_at (24 * h.nlibs) bytes 48
 
-abbrev pub with_entries : Bool → List ℕ → List ℕ → Cache
-with_entries little bytes entries = record { bytes = bytes; entries = table_in little ELF64 entries }
+abbrev pub with_entries : Bool → List ℕ → ℕ → List ℕ → Cache
+with_entries little bytes extension entries = record {
+  bytes = bytes;
+  entries = table_in little ELF64 entries;
+  hwcaps = table_in little ELF64 (or_empty (hwcap_bytes little bytes extension));
+}
 
 abbrev pub cache_in : Bool → List ℕ → Result Cache CacheError
 cache_in little bytes =
-    checked_header little bytes >>= λ h. or_unread (ok_map (with_entries little bytes) (entry_bytes bytes h))
+    checked_header little bytes >>= λ h.
+    or_unread (ok_map (with_entries little bytes h.extension_offset) (entry_bytes bytes h))
 
 -- the cache that a file is, or why it is none
 abbrev pub cache_of : Bool → List ℕ → Result Cache CacheError
@@ -172,10 +237,16 @@ abbrev pub is_name : List ℕ → Result (List ℕ) ParseError → Bool
 is_name name (Ok string) = bytes_eq string name
 is_name name (Err e) = false
 
--- the entry lists a library of this name, for every processor of the machine, and its path can be read
-abbrev pub lists : List ℕ → List ℕ → List ℕ → CacheEntry → Bool
-lists bytes flags name e =
-    list_any (λ flag. flag == e.flags) flags && (e.hwcap == 0) && is_ok (string_at bytes e.value)
+-- for every processor of the machine, or for the subfolder of glibc-hwcaps with this place in the list of their names:
+-- the upper half of hwcap is then DL_CACHE_HWCAP_EXTENSION, without its lowest ten bits, and the lower half is the place
+abbrev pub is_for : Option ℕ → ℕ → Bool
+is_for None hwcap = hwcap == 0
+is_for (Some place) hwcap = (hwcap / 2 ^ 42 == 2 ^ 20) && (hwcap % 2 ^ 32 == place)
+
+-- the entry lists a library of this name, for these processors, and its path can be read
+abbrev pub lists : List ℕ → List ℕ → Option ℕ → List ℕ → CacheEntry → Bool
+lists bytes flags place name e =
+    list_any (λ flag. flag == e.flags) flags && is_for place e.hwcap && is_ok (string_at bytes e.value)
     && is_name name (string_at bytes e.key)
 
 abbrev pub path_in : List ℕ → Option CacheEntry → Option (List ℕ)
@@ -183,13 +254,32 @@ path_in bytes None = None
 path_in bytes (Some e) = result_ok (string_at bytes e.value)
 
 -- the path of the first entry that lists the name
-abbrev pub cached_path : Cache → List ℕ → List ℕ → Option (List ℕ)
-cached_path cache flags name = path_in cache.bytes (find (lists cache.bytes flags name) (entries_of cache))
+abbrev pub path_for : Cache → List ℕ → Option ℕ → List ℕ → Option (List ℕ)
+path_for cache flags place name = path_in cache.bytes (find (lists cache.bytes flags place name) (entries_of cache))
+
+-- the place of a subfolder in the list
+abbrev pub place_in : Cache → List ℕ → Option ℕ
+place_in cache hwcap =
+    position (λ offset. is_name hwcap (string_at cache.bytes offset)) (table_items u32_reads cache.hwcaps)
+
+abbrev pub path_at : Cache → List ℕ → Option ℕ → List ℕ → Option (List ℕ)
+path_at cache flags None name = None
+path_at cache flags (Some place) name = path_for cache flags (Some place) name
+
+abbrev pub or_later : Option (List ℕ) → Option (List ℕ) → Option (List ℕ)
+or_later None later = later
+or_later (Some path) later = Some path
+
+-- the path for the first of these subfolders that has one, or else that for every processor
+abbrev pub cached_path : Cache → List ℕ → List (List ℕ) → List ℕ → Option (List ℕ)
+cached_path cache flags [] name = path_for cache flags None name
+cached_path cache flags (hwcap ∷ hwcaps) name =
+    or_later (path_at cache flags (place_in cache hwcap) name) (cached_path cache flags hwcaps name)
 
 -- ---- the view of the structs
 
 abbrev pub cache_view : LinkerCache → Cache
-cache_view c = record { bytes = c.strings; entries = table_view c.entries }
+cache_view c = record { bytes = c.strings; entries = table_view c.entries; hwcaps = table_view c.hwcaps }
 
 abbrev pub flags_view : LibraryFlags → List ℕ
 flags_view f = f.flags.now

@@ -37,6 +37,7 @@ others = record {
   library_path = Some (codes "$ORIGIN/e");
   lib = codes "lib64";
   platform = codes "x86_64";
+  hwcaps = [];
   cached = cached;
   listed_folders = [];
   usual_folders = codes "/lib" ∷ codes "/usr/lib" ∷ [];
@@ -49,11 +50,16 @@ without_cache = record others {
   listed_folders = codes "/opt/x" ∷ codes "/lib/x" ∷ codes "/lib" ∷ codes "/lib64" ∷ [];
 }
 
+-- the same with two subfolders for processors
+abbrev pub for_processor : Others
+for_processor = record others { hwcaps = codes "b" ∷ codes "a" ∷ [] }
+
 abbrev pub no_others : Others
 no_others = record {
   library_path = None;
   lib = [];
   platform = [];
+  hwcaps = [];
   cached = λ _. None;
   listed_folders = [];
   usual_folders = [];

@@ -15,8 +15,7 @@ use Rattle.elf_records.specs.declared.dynamic.Dyn.{Dyn}
 use Rattle.elf_records.specs.declared.parse.ParseError.{ParseError}
 use Rattle.elf_records.specs.declared.segment.ProgramHeader.{ProgramHeader}
 use Rattle.elf.specs.Answers.{dynamic}
-use Rattle.elf.specs.ElfStream.{Keeps, StreamView}
-use Rattle.elf_reading.specs.Refusals.{IsRefused, Kind, kind}
+use Rattle.elf_reading.specs.Refusals.{Kind, kind}
 use Rattle.elf.specs.Headers.{if_found}
 use Rattle.elf.specs.ObjectFile.{ErrorOf, Extent, FileOf, Partial, Whole, err_map}
 use Rattle.elf.specs.declared.read_error.ReadError.TheVariants.{Parse, NotLoaded as NotRead}
@@ -186,18 +185,11 @@ NamesFollow is_missing whole part = FollowsBy Missing is_missing whole part
 
 -- ---- over a stream
 
--- the answer, and the source did not fail; or the error with which the source or an allocation failed
-abbrev pub IsNamesAnswer : {T Y : Type 0} → (T → Y) → Result Y NamesError → Bool → ℕ → ℕ → Result T NamesError → Type 0
-IsNamesAnswer shown answer can_fail before now r =
-    ((now ≡ before) × IsAnswered shown answer r)
-    ⊎ ((e : ParseError) × (r ≡ Err (Read e)) × IsRefused before now can_fail ⊥ (kind e))
-
--- the same file, no cached range lost, and where the content is known its answer
-pub record GivesNames {E T Y : Type 0} (shown : T → Y) (answer : List ℕ → Result Y NamesError) (old new : StreamView E)
-    (r : Result T NamesError) : Type 0 where
-  pub keeps : Keeps old new
-  pub answers : IfSome old.content (λ bytes.
-      IsNamesAnswer shown (answer bytes) old.can_fail old.failures new.failures r)
+-- the kind of an error
+abbrev pub names_kind : NamesError → Kind
+names_kind (Read e) = kind e
+names_kind Memory = Kind.AllocationFailure
+names_kind _ = Kind.Refusal
 
 -- the range that is missing, if that is the error
 abbrev pub missing_of : {A : Type 0} → Result A NamesError → Option (ℕ × ℕ)

@@ -91,12 +91,13 @@ pub record Object : Type 0 where
   pub rpath : Option (List ℕ)
   pub nodeflib : Bool
 
--- the LD_LIBRARY_PATH, what stands for $LIB and $PLATFORM, the path that the linker's cache has for a name, the folders that
--- count in place of a cache, and the usual folders
+-- the LD_LIBRARY_PATH, what stands for $LIB and $PLATFORM, the names of the subfolders of glibc-hwcaps that count, the path
+-- that the linker's cache has for a name, the folders that count in place of a cache, and the usual folders
 pub record Others : Type 0 where
   pub library_path : Option (List ℕ)
   pub lib : List ℕ
   pub platform : List ℕ
+  pub hwcaps : List (List ℕ)
   pub cached : List ℕ → Option (List ℕ)
   pub listed_folders : List (List ℕ)
   pub usual_folders : List (List ℕ)
@@ -132,6 +133,13 @@ folders object loaders others =
 abbrev pub joined_path : List ℕ → List ℕ → List ℕ
 joined_path name folder = (if length folder == 0 then codes "." else folder) ++ codes "/" ++ name
 
+-- a folder after its subfolders of glibc-hwcaps, the best first
+abbrev pub in_hwcap : List ℕ → List ℕ → List ℕ
+in_hwcap folder hwcap = joined_path (codes "glibc-hwcaps/") folder ++ hwcap
+
+abbrev pub with_hwcaps : List (List ℕ) → List ℕ → List (List ℕ)
+with_hwcaps hwcaps folder = map (in_hwcap folder) hwcaps ++ folder ∷ []
+
 -- the usual folders do not count for an object with the flag DF_1_NODEFLIB, and neither does what the cache has in them
 abbrev pub excluded_folders : Object → Others → List (List ℕ)
 excluded_folders object others = if object.nodeflib then others.usual_folders else []
@@ -153,7 +161,7 @@ if_outside excluded None = None
 if_outside excluded (Some path) = if is_outside excluded path then Some path else None
 
 -- where a library is searched for: in the folders of search paths, at the path that the cache has for its name, in the
--- folders that count in place of a cache, and in the usual ones
+-- folders that count in place of a cache, and in the usual ones; in each after its subfolders
 pub record Places : Type 0 where
   pub folders : List (List ℕ)
   pub cached : List ℕ → Option (List ℕ)
@@ -164,10 +172,11 @@ abbrev pub places : Object → List Object → Others → Places
 places object loaders others =
     let excluded = excluded_folders object others in
     record {
-      folders = folders object loaders others;
+      folders = flat_map (with_hwcaps others.hwcaps) (folders object loaders others);
       cached = others.cached;
       excluded = excluded;
-      usual = filter (is_folder_outside excluded) (others.listed_folders ++ others.usual_folders);
+      usual = flat_map (with_hwcaps others.hwcaps)
+          (filter (is_folder_outside excluded) (others.listed_folders ++ others.usual_folders));
     }
 
 -- the path that the cache has for a name, if it counts
@@ -211,9 +220,9 @@ abbrev pub tokens_view : Substitutions → Tokens
 tokens_view t = record { origin = t.origin.now; lib = t.lib.now; platform = t.platform.now }
 
 -- the path that a cache, which there may not be, has for a name
-abbrev pub cached_by : Option (Bor LinkerCache) → LibraryFlags → List ℕ → Option (List ℕ)
-cached_by None flags name = None
-cached_by (Some cache) flags name = cached_path (cache_view cache.now) (flags_view flags) name
+abbrev pub cached_by : Option (Bor LinkerCache) → LibraryFlags → List (List ℕ) → List ℕ → Option (List ℕ)
+cached_by None flags hwcaps name = None
+cached_by (Some cache) flags hwcaps name = cached_path (cache_view cache.now) (flags_view flags) hwcaps name
 
 abbrev pub folders_view : List (Bor (List ℕ)) → List (List ℕ)
 folders_view folders = map (λ (folder : Bor (List ℕ)). folder.now) folders
@@ -223,7 +232,8 @@ others_view s = record {
   library_path = path_view s.library_path;
   lib = s.lib.now;
   platform = s.platform.now;
-  cached = cached_by s.cache s.flags;
+  hwcaps = folders_view s.hwcaps.now;
+  cached = cached_by s.cache s.flags (folders_view s.hwcaps.now);
   listed_folders = folders_view s.listed_folders.now;
   usual_folders = folders_view s.usual_folders.now;
 }
@@ -231,7 +241,7 @@ others_view s = record {
 abbrev pub places_view : SearchPlaces → Places
 places_view p = record {
   folders = map vec_items p.folders.items;
-  cached = cached_by p.cache p.flags;
+  cached = cached_by p.cache p.flags (folders_view p.hwcaps.now);
   excluded = folders_view p.excluded.now;
   usual = map vec_items p.usual.items;
 }

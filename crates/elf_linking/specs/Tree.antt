@@ -3,7 +3,7 @@
 -- breadth first: those that the program needs in the order of its entries DT_NEEDED, then those that the first of these
 -- needs, and so on. A library is loaded once. Symbols are looked up in the same order, but in the filtees of an object
 -- before the object itself.
-use Rattle.std.specs.Prelude.{◌≡◌, ◌≤◌, ℕ, ◌+◌, ◌==◌, ◌&&◌, zero, suc, not, Bool, true, false, if◌then◌else◌}
+use Rattle.std.specs.Prelude.{◌≡◌, ◌≤◌, ℕ, ◌+◌, ◌==◌, ◌&&◌, ◌||◌, zero, suc, not, Bool, true, false, if◌then◌else◌}
 use Rattle.std.specs.Prelude.{List, [], ◌∷◌, ◌++◌, codes, drop, insert, length, map, position, remove, slice_set, take}
 use Rattle.std.specs.Prelude.{slice_get}
 use Rattle.std.specs.Prelude.{Option, Some, None, unwrap_or, Result, Ok, Err}
@@ -27,6 +27,7 @@ use Rattle.elf_linking.specs.Search.{tokens_in}
 use Rattle.elf_linking.specs.declared.needed.NamesError.{NamesError}
 use Rattle.elf_linking.specs.declared.needed.Role.{Role}
 use Rattle.elf_linking.specs.declared.needed.Role.TheVariants.{Auxiliary, Filter, Needed}
+use Rattle.elf_linking.specs.declared.tree.Identity.{Identity}
 use Rattle.elf_linking.specs.declared.tree.Kind.{Kind}
 use Rattle.elf_linking.specs.declared.tree.LoadedFile.{LoadedFile}
 use Rattle.elf_linking.specs.declared.tree.Object.{Object}
@@ -58,10 +59,11 @@ same_kind a b = same_class a.class b.class && same_order a.order b.order && (a.m
 abbrev pub kind_of : FileHeader AnyEndian → Kind
 kind_of h = record { class = h.class; order = h.endianness; machine = h.e_machine }
 
--- a file that was opened: its path, its bytes, if they are kept, its kind, and the names that its dynamic entries give,
--- or why they give none
+-- a file that was opened: its path, which file it is, if that is known, its bytes, if they are kept, its kind, and the
+-- names that its dynamic entries give, or why they give none
 pub record Found : Type 0 where
   pub path : List ℕ
+  pub identity : Option Identity
   pub bytes : List ℕ
   pub kind : Kind
   pub names : Result (Option Named) NamesError
@@ -69,6 +71,7 @@ pub record Found : Type 0 where
 abbrev pub found_in : List ℕ → List ℕ → FileView AnyEndian → Found
 found_in path bytes v = record {
   path = path;
+  identity = None;
   bytes = bytes;
   kind = kind_of v.ehdr;
   names = names (object_file any_is_little v);
@@ -80,12 +83,15 @@ or_other (Ok x) other = Ok x
 or_other (Err e) (Ok other) = Ok other
 or_other (Err e) (Err later) = Err e
 
--- The ELF file that the bytes at a path are, or why they are none. The dynamic linker reads no section headers: where they
--- cannot be read, the file is read through its segments.
+-- The ELF file that bytes are, or why they are none. The dynamic linker reads no section headers: if they cannot be
+-- read, the file is read through its segments.
+abbrev pub linked_file : List ℕ → Result (FileView AnyEndian) ParseError
+linked_file bytes =
+    or_other (opened_file any_is_little any_of_byte bytes) (opened_by_segments any_is_little any_of_byte bytes)
+
+-- the same of the bytes at a path
 abbrev pub file_of : List ℕ → List ℕ → Result Found ParseError
-file_of path bytes =
-    ok_map (found_in path bytes)
-    (or_other (opened_file any_is_little any_of_byte bytes) (opened_by_segments any_is_little any_of_byte bytes))
+file_of path bytes = ok_map (found_in path bytes) (linked_file bytes)
 
 -- the ELF file at a path, if one is there; `files` are the contents of the files by their paths
 abbrev pub opened_as : List ℕ → Option (List ℕ) → Option Found
@@ -98,6 +104,10 @@ opened_whole files path = opened_as path (files path)
 -- the same without its bytes, where only its names are of use
 abbrev pub without_bytes : Found → Found
 without_bytes found = record found { bytes = [] }
+
+-- the same with this identity
+abbrev pub with_identity : Option Identity → Found → Found
+with_identity identity found = record found { identity = identity }
 
 abbrev pub opened_names : (List ℕ → Option (List ℕ)) → List ℕ → Option Found
 opened_names files path = option_map without_bytes (opened_whole files path)
@@ -157,8 +167,23 @@ names_by name (Some found) = name ∷ found.path ∷ option_to_list (known found
 abbrev pub names_of : Entry → List (List ℕ)
 names_of e = names_by e.name e.file
 
-abbrev pub is_loaded : List ℕ → List Entry → Bool
-is_loaded name objects = list_any (bytes_eq name) (flat_map names_of objects)
+-- It is also found by the file that it is: two paths may lead to one file (POSIX, <sys/stat.h>: the numbers of a device
+-- and of a file on it are those of one file).
+abbrev pub same_file : Option Identity → Option Identity → Bool
+same_file (Some a) (Some b) = (a.device == b.device) && (a.inode == b.inode)
+same_file (Some a) None = false
+same_file None b = false
+
+abbrev pub identity_of : Option Found → Option Identity
+identity_of None = None
+identity_of (Some found) = found.identity
+
+-- the object has this name, or is this file
+abbrev pub is_object : List ℕ → Option Identity → Entry → Bool
+is_object name identity e = list_any (bytes_eq name) (names_of e) || same_file identity (identity_of e.file)
+
+abbrev pub is_loaded : List ℕ → Option Identity → List Entry → Bool
+is_loaded name identity objects = list_any (is_object name identity) objects
 
 abbrev pub file_at : List Entry → ℕ → Option Found
 file_at objects place = unwrap_or (option_map (λ (e : Entry). e.file) (slice_get objects place)) None
@@ -213,7 +238,7 @@ waiting place = record { place = place; is_done = false }
 -- the file is an object already
 abbrev pub is_loaded_file : Option Found → List Entry → Bool
 is_loaded_file None objects = false
-is_loaded_file (Some found) objects = is_loaded found.path objects
+is_loaded_file (Some found) objects = is_loaded found.path found.identity objects
 
 -- with one object more, which the object at a place names first: with its file, or missing. A file that is an object
 -- already is no new one.
@@ -225,11 +250,11 @@ add name place found s =
       scope = s.scope ++ waiting (length s.objects) ∷ [];
     }
 
--- the place of the first object that has the name, counted from k
-abbrev pub place_of : ℕ → List ℕ → List Entry → Option ℕ
-place_of k name [] = None
-place_of k name (e ∷ objects) =
-    if list_any (bytes_eq name) (names_of e) then Some k else place_of (k + 1) name objects
+-- the place of the first object that has the name or is the file, counted from k
+abbrev pub place_of : ℕ → List ℕ → Option Identity → List Entry → Option ℕ
+place_of k name identity [] = None
+place_of k name identity (e ∷ objects) =
+    if is_object name identity e then Some k else place_of (k + 1) name identity objects
 
 -- a filtee comes directly before the object that names it, which has the slot `at`, if its own libraries were not loaded
 -- yet and it comes later
@@ -245,11 +270,11 @@ abbrev pub put_before : Option ℕ → Loading → Loading
 put_before None s = s
 put_before (Some place) s = moved place (position (waits place) (drop (s.at + 1) s.scope)) s
 
--- the object with this name, if it is a filtee
-abbrev pub if_filtee : Role → List ℕ → Loading → Loading
-if_filtee Needed name s = s
-if_filtee Auxiliary name s = put_before (place_of 0 name s.objects) s
-if_filtee Filter name s = put_before (place_of 0 name s.objects) s
+-- the object with this name, or which is this file, if it is a filtee
+abbrev pub if_filtee : Role → List ℕ → Option Identity → Loading → Loading
+if_filtee Needed name identity s = s
+if_filtee Auxiliary name identity s = put_before (place_of 0 name identity s.objects) s
+if_filtee Filter name identity s = put_before (place_of 0 name identity s.objects) s
 
 -- an auxiliary filtee may be missing
 abbrev pub if_missing : Role → List ℕ → ℕ → Loading → Loading
@@ -258,7 +283,8 @@ if_missing Auxiliary name place s = s
 if_missing Filter name place s = add name place None s
 
 abbrev pub with_file : Role → List ℕ → ℕ → Option Found → Loading → Loading
-with_file role name place (Some found) s = if_filtee role found.path (add name place (Some found) s)
+with_file role name place (Some found) s =
+    if_filtee role found.path found.identity (add name place (Some found) s)
 with_file role name place None s = if_missing role name place s
 
 -- the libraries of the object at a place, which has the slot `at`, were loaded
@@ -273,7 +299,7 @@ module _ (opened : List ℕ → Option Found) (kind : Kind) where
   -- a library that is loaded is not searched for; any other one is searched for in these places
   abbrev pub load : Places → ℕ → Loading → Wanted → Loading
   load places place s library =
-      if is_loaded library.name s.objects then if_filtee library.role library.name s
+      if is_loaded library.name None s.objects then if_filtee library.role library.name None s
       else with_file library.role library.name place
       (first_fitting opened kind (candidates_of library.name places)) s
 
@@ -322,6 +348,7 @@ in_order objects scope = flat_map (λ place. option_to_list (slice_get objects p
 abbrev pub found_view : LoadedFile → Found
 found_view f = record {
   path = f.path.items;
+  identity = f.identity;
   bytes = f.bytes.items;
   kind = f.kind;
   names = ok_map (option_map names_view) f.names;

@@ -2,18 +2,21 @@
 //! `ldconfig` writes it (glibc, `sysdeps/generic/dl-cache.h`).
 //!
 //! Only the format `glibc-ld.so.cache1.1` is read, also if it follows a cache of the older format `ld.so-1.7.0`.
-//! Entries for processors of a certain level (`glibc-hwcaps`) are passed over. Two names are the same if their bytes are;
-//! glibc also ignores zeros before a number in a name. A file that gives the path of an entry is not looked for.
-ghost use Rattle.std.specs.Prelude.{◌≡◌, ◌==◌, drop};
+//! Of the entries for some processors only those for subfolders of `glibc-hwcaps` are read, and not the level that such a
+//! library itself needs. Two names are the same if their bytes are; glibc also ignores zeros before a number in a name. A
+//! file that gives the path of an entry is not looked for.
+ghost use Rattle.std.specs.Prelude.{◌≡◌, ◌==◌, drop, map};
 ghost use Rattle.std.specs.List.{find, list_any};
 ghost use Rattle.std.specs.Option.{option_map};
 ghost use Rattle.elf_records.specs.Endian.{any_is_little};
 ghost use Rattle.elf_records.specs.Number.{ok_map};
 ghost use Rattle.elf_records.specs.StringTable.{string_at};
-ghost use Rattle.elf_records.specs.Table.{table_view};
+ghost use Rattle.elf_records.specs.Table.{table_items, table_view};
 ghost use Rattle.elf_linking.specs.Cache.{aligned, cache_bytes, cache_in, cache_of, cache_view, checked_header, end_of_old};
-ghost use Rattle.elf_linking.specs.Cache.{cached_path, entries_of, entry_bytes, flags_of, flags_of_32, flags_of_64, flags_view};
-ghost use Rattle.elf_linking.specs.Cache.{header_of, is_in_order, is_name, lists, new_at};
+ghost use Rattle.elf_linking.specs.Cache.{cached_path, content_of, entries_of, entry_bytes, flags_of, flags_of_32};
+ghost use Rattle.elf_linking.specs.Cache.{flags_of_64, flags_view, has_hwcaps, header_of, hwcap_bytes, is_for, is_in_order};
+ghost use Rattle.elf_linking.specs.Cache.{is_name, lists, new_at, or_empty, path_at, path_for, place_in, section_bytes};
+ghost use Rattle.elf_linking.specs.Cache.{section_count, section_reads};
 ghost use Rattle.elf_linking.specs.declared.cache.CacheError.TheVariants.{Read as IsRead};
 
 use elf_abi::abi;
@@ -30,10 +33,17 @@ const NEW_MAGIC: &[u8] = b"glibc-ld.so.cache1.1";
 
 const OLD_MAGIC: &[u8] = b"ld.so-1.7.0";
 
+// The first word of the directory of extensions, and the tag of the section that lists subfolders.
+const EXTENSION_MAGIC: u32 = 0xeaa4_2174;
+
+const HWCAPS_TAG: u32 = 1;
+
 // Sizes in bytes.
 const HEADER_SIZE: usize = 48;
 
 const ENTRY_SIZE: usize = 24;
+
+const SECTION_SIZE: usize = 16;
 
 const OLD_HEADER_SIZE: usize = 16;
 
@@ -120,6 +130,48 @@ impl ParseAt for CacheEntry {
     }
 }
 
+/// A section of the directory of extensions.
+#[derive(Clone, Copy, Debug, PartialEq, Eq)]
+pub struct ExtensionSection {
+    /// What the section has.
+    pub tag: u32,
+    /// Not used.
+    pub flags: u32,
+    /// Its offset, in bytes from the start of the cache.
+    pub offset: u32,
+    /// Its size in bytes.
+    pub size: u32,
+}
+
+impl ParseAt for ExtensionSection {
+    ghost use Rattle.elf_linking.specs.Cache.{section_reads};
+
+    ghost reads = { section_reads };
+
+    #[tactic(auto, unfolding(elf_records::specs::Record::numbers_at, elf_records::specs::Record::numbers_end))]
+    fn parse_at<E: EndianParse>(
+        endian: E,
+        _class: Class,
+        offset: &mut usize,
+        data: &[u8],
+    ) -> Result<Self, ParseError> {
+        Ok(ExtensionSection {
+            tag: endian.parse_u32_at(offset, data)?,
+            flags: endian.parse_u32_at(offset, data)?,
+            offset: endian.parse_u32_at(offset, data)?,
+            size: endian.parse_u32_at(offset, data)?,
+        })
+    }
+
+    fn size_for(_class: Class) -> usize {
+        SECTION_SIZE
+    }
+
+    fn is_local() -> bool {
+        true
+    }
+}
+
 static SPARC_64: [u32; 1] = [0x0103];
 
 static IA_64: [u32; 1] = [0x0203];
@@ -195,6 +247,18 @@ fn flags_of_32(machine: u16) -> &'static [u32]
         abi::EM_X86_64 => &X32,
         abi::EM_ARM => &ARM_HARD_FLOAT,
         _ => &OTHERS,
+    }
+}
+
+// Whether an entry with this `hwcap` is for the subfolder with a place in the list, or for every processor.
+fn is_for(place: Option<usize>, hwcap: u64) -> bool
+    ensures { result ≡ is_for place hwcap }
+{
+    match place {
+        Some(place) => {
+            hwcap / 0x400_0000_0000 == 0x10_0000 && hwcap % 0x1_0000_0000 == place as u64
+        }
+        None => hwcap == 0,
     }
 }
 
@@ -286,12 +350,71 @@ fn entry_bytes<'data>(bytes: &'data [u8], header: &CacheHeader) -> Result<&'data
     get_bytes(bytes, HEADER_SIZE, ENTRY_SIZE * header.nlibs as usize)
 }
 
+// The number of sections of the directory of extensions, which has 8 bytes before them.
+fn section_count(order: AnyEndian, bytes: &[u8], offset: u32) -> Result<u32, ParseError>
+    ensures { result ≡ section_count (any_is_little order) bytes.now offset }
+{
+    let mut offset = offset as usize;
+    if order.parse_u32_at(&mut offset, bytes)? != EXTENSION_MAGIC {
+        return Ok(0);
+    }
+    order.parse_u32_at(&mut offset, bytes)
+}
+
+fn section_bytes(order: AnyEndian, bytes: &[u8], offset: u32) -> Result<&[u8], ParseError>
+    ensures { ok_map (λ sections. sections.now) result ≡ section_bytes (any_is_little order) bytes.now offset }
+{
+    let count = section_count(order, bytes, offset)?;
+    get_bytes(bytes, offset as usize + 8, SECTION_SIZE * count as usize)
+}
+
+fn hwcaps_section(
+    sections: &ParsingTable<'_, AnyEndian, ExtensionSection>,
+) -> Option<ExtensionSection>
+    ensures { result ≡ find has_hwcaps (table_items section_reads (table_view sections.now)) }
+{
+    sections.iter().find(|section| section.tag == HWCAPS_TAG)
+}
+
+fn content_of<'data>(
+    bytes: &'data [u8],
+    section: Option<ExtensionSection>,
+) -> Result<&'data [u8], ParseError>
+    ensures { ok_map (λ content. content.now) result ≡ content_of bytes.now section }
+{
+    match section {
+        Some(section) => get_bytes(bytes, section.offset as usize, section.size as usize),
+        None => Ok(&[]),
+    }
+}
+
+// The offsets of the names of subfolders.
+fn hwcap_bytes(order: AnyEndian, bytes: &[u8], offset: u32) -> Result<&[u8], ParseError>
+    ensures { ok_map (λ offsets. offsets.now) result ≡ hwcap_bytes (any_is_little order) bytes.now offset }
+{
+    let sections = section_bytes(order, bytes, offset)?;
+    let sections = ParsingTable::new(order, Class::ELF64, sections);
+    content_of(bytes, hwcaps_section(&sections))
+}
+
+// The same, or none if they cannot be read.
+fn readable_hwcaps(order: AnyEndian, bytes: &[u8], offset: u32) -> &[u8]
+    ensures { result.now ≡ or_empty (hwcap_bytes (any_is_little order) bytes.now offset) }
+{
+    match hwcap_bytes(order, bytes, offset) {
+        Ok(offsets) => offsets,
+        Err(_) => &[],
+    }
+}
+
 /// A cache, which borrows the bytes of its file.
 #[derive(Debug, Drop)]
 pub struct LinkerCache<'data> {
     strings: TerminatedStrings<'data>,
     /// The entries, in order.
     pub entries: ParsingTable<'data, AnyEndian, CacheEntry>,
+    /// The offsets of the names of subfolders of `glibc-hwcaps`, in order; none if the list cannot be read.
+    pub hwcaps: ParsingTable<'data, AnyEndian, u32>,
 }
 
 impl<'data> LinkerCache<'data> {
@@ -300,7 +423,8 @@ impl<'data> LinkerCache<'data> {
     ///
     /// Errors, in order: `Magic`; of a file that begins with a cache of the older format, `Read` if its number of entries
     /// is cut off, and `OldFormat` if no cache follows; `Read` if the header is cut short; `ByteOrder`; `Read` if the
-    /// entries are cut short. Of the file no more is read than these, and from its end back to its last 0 byte.
+    /// entries are cut short. Of the file no more is read than these, the directory of extensions, and from its end back
+    /// to its last 0 byte.
     pub fn new(order: AnyEndian, file: &'data [u8]) -> Result<Self, CacheError>
         ensures { ok_map cache_view result ≡ cache_of (any_is_little order) file.now }
     {
@@ -317,6 +441,11 @@ impl<'data> LinkerCache<'data> {
         Ok(LinkerCache {
             strings: TerminatedStrings::new(&StringTable::new(bytes)),
             entries: ParsingTable::new(order, Class::ELF64, entries),
+            hwcaps: ParsingTable::new(
+                order,
+                Class::ELF64,
+                readable_hwcaps(order, bytes, header.extension_offset),
+            ),
         })
     }
 
@@ -338,32 +467,79 @@ impl<'data> LinkerCache<'data> {
     }
 
     // The name is compared last, since that takes the longest.
-    fn lists(&self, flags: &LibraryFlags, name: &[u8], entry: &CacheEntry) -> bool
-        ensures { result ≡ lists (cache_view self.now).bytes (flags_view flags.now) name.now entry.now }
+    fn lists(
+        &self,
+        flags: &LibraryFlags,
+        place: Option<usize>,
+        name: &[u8],
+        entry: &CacheEntry,
+    ) -> bool
+        ensures { result ≡ lists (cache_view self.now).bytes (flags_view flags.now) place name.now entry.now }
     {
         flags.have(entry.flags)
-            && entry.hwcap == 0
+            && is_for(place, entry.hwcap)
             && self.strings.has_string_at(entry.value as usize)
             && self.has_name(name, entry.key)
     }
 
     /// Returns the path that the cache has for the name of a library: that of the first entry with this name and with
-    /// flags that fit, if it can be read. The time grows with the number of entries, times the length of the name at most.
-    pub fn lookup(&self, flags: &LibraryFlags, name: &[u8]) -> Option<&'data [u8]>
+    /// flags that fit, if it can be read. Of the entries for subfolders of `glibc-hwcaps` those for `hwcaps` count, and
+    /// come before the others: `hwcaps` are the names of the subfolders, the best first. The time grows with the number
+    /// of entries, times the length of the name at most, and times the number of those subfolders that the cache lists.
+    pub fn lookup(&self, flags: &LibraryFlags, hwcaps: &[&[u8]], name: &[u8]) -> Option<&'data [u8]>
         ensures { option_map (λ path. path.now) result
-            ≡ cached_path (cache_view self.now) (flags_view flags.now) name.now }
+            ≡ cached_path (cache_view self.now) (flags_view flags.now) (map (λ hwcap. hwcap.now) hwcaps.now) name.now }
     {
-        let entry = self.listed(flags, name)?;
+        for hwcap in hwcaps {
+            let found = self.path_at(flags, hwcap, name);
+            if found.is_some() {
+                return found;
+            }
+        }
+        self.path_for(flags, None, name)
+    }
+
+    // The path for a subfolder.
+    fn path_at(&self, flags: &LibraryFlags, hwcap: &[u8], name: &[u8]) -> Option<&'data [u8]>
+        ensures { let cache = cache_view self.now in option_map (λ path. path.now) result
+            ≡ path_at cache (flags_view flags.now) (place_in cache hwcap.now) name.now }
+    {
+        match self.place_of(hwcap) {
+            Some(place) => self.path_for(flags, Some(place), name),
+            None => None,
+        }
+    }
+
+    // The path of the first entry that lists the name.
+    fn path_for(
+        &self,
+        flags: &LibraryFlags,
+        place: Option<usize>,
+        name: &[u8],
+    ) -> Option<&'data [u8]>
+        ensures { option_map (λ path. path.now) result
+            ≡ path_for (cache_view self.now) (flags_view flags.now) place name.now }
+    {
+        let entry = self.listed(flags, place, name)?;
         self.string(entry.value).ok()
     }
 
     // The first entry that lists the name.
-    fn listed(&self, flags: &LibraryFlags, name: &[u8]) -> Option<CacheEntry>
+    fn listed(&self, flags: &LibraryFlags, place: Option<usize>, name: &[u8]) -> Option<CacheEntry>
         ensures { let cache = cache_view self.now in
-            result ≡ find (lists cache.bytes (flags_view flags.now) name.now) (entries_of cache) }
+            result ≡ find (lists cache.bytes (flags_view flags.now) place name.now) (entries_of cache) }
     {
         self.entries
             .iter()
-            .find(|entry| self.lists(flags, name, entry))
+            .find(|entry| self.lists(flags, place, name, entry))
+    }
+
+    // The place of a subfolder in the list.
+    fn place_of(&self, hwcap: &[u8]) -> Option<usize>
+        ensures { result ≡ place_in (cache_view self.now) hwcap.now }
+    {
+        self.hwcaps
+            .iter()
+            .position(|offset| self.has_name(hwcap, offset))
     }
 }

@@ -1,21 +1,23 @@
 //! The names by which the dynamic linker finds a file and the libraries that it loads with it.
-ghost use Rattle.std.specs.Prelude.{◌≡◌, ◌≢◌, Err, IfOk, IfSome, None, Ok, map};
+ghost use Rattle.std.specs.Prelude.{◌≡◌, ◌≢◌, Err, IfErr, IfOk, None, Ok, map};
 ghost use Rattle.std.specs.Option.{option_map};
 ghost use Rattle.elf_records.specs.Number.{ok_map};
 ghost use Rattle.elf_records.specs.Table.{table_view};
 ghost use Rattle.elf.specs.Answers.{dynamic};
 ghost use Rattle.elf.specs.ObjectFile.{Partial};
 ghost use Rattle.elf.specs.Parts.{loaded};
+ghost use Rattle.elf.specs.Ranges.{dynamic_ranges, headers_alone};
 ghost use Rattle.elf.specs.StreamFile.{stream_file};
+ghost use Rattle.elf_reading.specs.Refusals.{Kind};
 ghost use Rattle.elf_dynamic.specs.dynamic_view.Entries.{entries_in};
-ghost use Rattle.elf_linking.specs.Missing.{LoadsMissing};
-ghost use Rattle.elf_linking.specs.Needed.{GivesNames, IsAnswered, IsGiven, MissesNames};
+ghost use Rattle.elf_linking.specs.Missing.{LoadsMissing, loaded_part};
+ghost use Rattle.elf_linking.specs.Needed.{IsAnswered, IsGiven, MissesNames};
 ghost use Rattle.elf_linking.specs.Needed.{first_entry, first_name, has_nodeflib, is_library};
 ghost use Rattle.elf_linking.specs.Needed.{libraries_of, library_of, library_view, missing_of};
-ghost use Rattle.elf_linking.specs.Needed.{name_bytes, name_of, names, names_by, names_in, names_view};
+ghost use Rattle.elf_linking.specs.Needed.{name_bytes, name_of, names, names_by, names_in, names_kind, names_view};
 ghost use Rattle.elf_linking.specs.Needed.{read_error, role_of};
 ghost use Rattle.elf_linking.specs.Needed.{string_part, string_range, strings_by};
-ghost use Rattle.elf_linking.specs.Readings.{ReadsFile};
+ghost use Rattle.elf_linking.specs.Readings.{LeavesCopy, ReadsFile};
 ghost use Rattle.elf_linking.specs.declared.needed.NamesError.TheVariants.{Memory as IsMemory};
 
 use elf::dynamic::{Dyn, DynamicTable};
@@ -332,14 +334,18 @@ fn names_in(alloc: Global, table: &[u8], entries: &[Dyn]) -> Result<Names, Names
     })
 }
 
-/// Returns the dynamic entries of a file before the first with the tag `DT_NULL`, copied, or `None` if it has none. The
-/// errors are those of `dynamic`, then `OutOfMemory` if an allocation failed.
+/// Returns the dynamic entries of a file before the first with the tag `DT_NULL`, copied, or `None` if it has none. It
+/// requests what `dynamic` requests: if that is cached, the stream is as it was.
+///
+/// Errors, in order: those of `dynamic`, among them `IOError` exactly if the source failed; `OutOfMemory` if an
+/// allocation failed, which is possible only if a requested range was not cached or the file has dynamic entries.
 pub fn read_entries<E: EndianParse, S: StreamSource, A: Allocator + Copy>(
     alloc: Global,
     stream: &mut ElfStream<E, S, A>,
 ) -> Result<Option<Vec<Dyn>>, ParseError>
-    ensures { ReadsFile stream.old stream.new result (option_map (λ entries. entries.items))
-        (λ bytes. ok_map (option_map entries_in) (dynamic (stream_file E.little stream.old bytes))) }
+    ensures { LeavesCopy (dynamic_ranges (headers_alone E.little stream.old)) (λ entries. entries.items)
+        (λ bytes. ok_map (option_map entries_in) (dynamic (stream_file E.little stream.old bytes)))
+        stream.old stream.new result }
 {
     match stream.dynamic() {
         Ok(Some(table)) => {
@@ -406,8 +412,9 @@ fn missing_of(found: &Result<Option<Names>, NamesError>) -> Option<(u64, u64)>
 }
 
 /// Returns of a stream what `dynamic_names` returns of a file in memory, with the same errors in the same order. It
-/// loads each range that is missing, and no other. `Read` also if the source failed, or if an allocation for a range
-/// failed.
+/// loads each range that is missing, and no other. `Read` also with `IOError`, exactly if the source failed, and with
+/// `OutOfMemory` if an allocation for a range failed, which like `Memory` is possible only if the file has dynamic
+/// entries.
 ///
 /// ```rust
 /// if let Some(names) = read_dynamic_names(rt.alloc(), &mut stream)? {
@@ -420,10 +427,10 @@ pub fn read_dynamic_names<E: EndianParse, S: StreamSource, A: Allocator + Copy>(
     alloc: Global,
     stream: &mut ElfStream<E, S, A>,
 ) -> Result<Option<Names>, NamesError>
-    ensures names { GivesNames (option_map names_view) (λ bytes. names (stream_file E.little stream.old bytes))
-        stream.old stream.new result }
-    ensures memory { result ≡ Err NamesError.Memory → IfSome stream.old.content (λ bytes.
-        names (stream_file E.little stream.old bytes) ≢ Ok None) }
+    ensures names { ReadsFile names_kind (option_map names_view)
+        (λ bytes. names (stream_file E.little stream.old bytes)) stream.old stream.new result }
+    ensures memory { IfErr result (λ e. names_kind e ≡ Kind.AllocationFailure
+        → names (loaded_part E.little stream.old) ≢ Ok None) }
     ensures only { LoadsMissing E.little MissesNames stream.old stream.new }
 {
     // Each round loads a range that was missing, and no source has that many.

@@ -1,19 +1,19 @@
 //! Where the dynamic linker looks for a library that an object needs, as the manual page ld.so(8) describes it.
 //!
 //! In order: the folders of `DT_RPATH`, of `LD_LIBRARY_PATH`, of `DT_RUNPATH`, the path that the linker's cache
-//! (`/etc/ld.so.cache`) has for the name, and the usual folders. For an object with the flag `DF_1_NODEFLIB` the usual
-//! folders and what the cache has in them do not count. Preloaded libraries are not read, and subfolders for kinds of
-//! processors (`glibc-hwcaps`) are not searched.
+//! (`/etc/ld.so.cache`) has for the name, and the usual folders. Before each folder come its subfolders of `glibc-hwcaps`
+//! for the processor. For an object with the flag `DF_1_NODEFLIB` the usual folders and what the cache has in them do not
+//! count. Preloaded libraries are not read, nor the subfolders without `glibc-hwcaps` that glibc had before 2.37.
 ghost use Rattle.std.specs.Prelude.{◌≡◌, ◌∷◌, ◌++◌, ◌<◌, [], IfOk, OnOk, drop, filter, length, map};
 ghost use Rattle.std.specs.Option.{option_map, option_to_list};
-ghost use Rattle.std.specs.List.{slice_split};
+ghost use Rattle.std.specs.List.{flat_map, slice_split};
 ghost use Rattle.std.specs.Vec.{vec_items};
 ghost use Rattle.elf_linking.specs.Search.{all_rpath_folders, cached_at, candidates, excluded_folders, expansion};
 ghost use Rattle.elf_linking.specs.Search.{expansion_after, folders, folders_view};
-ghost use Rattle.elf_linking.specs.Search.{folders_if, folders_in, if_outside, is_below, is_folder_outside, is_name_byte};
-ghost use Rattle.elf_linking.specs.Search.{is_outside, joined_path, object_view, others_view};
+ghost use Rattle.elf_linking.specs.Search.{folders_if, folders_in, if_outside, in_hwcap, is_below, is_folder_outside};
+ghost use Rattle.elf_linking.specs.Search.{is_name_byte, is_outside, joined_path, object_view, others_view};
 ghost use Rattle.elf_linking.specs.Search.{path_view, paths_of, places, places_view, program_folder, rpath_folders};
-ghost use Rattle.elf_linking.specs.Search.{separates, sequence, sequence_length, tokens_in, tokens_view};
+ghost use Rattle.elf_linking.specs.Search.{separates, sequence, sequence_length, tokens_in, tokens_view, with_hwcaps};
 
 pub mod worked;
 
@@ -41,6 +41,8 @@ pub struct Surroundings<'a> {
     pub lib: &'a [u8],
     /// What stands for `$PLATFORM`, such as `x86_64`.
     pub platform: &'a [u8],
+    /// The names of the subfolders of `glibc-hwcaps` that count, the best first, such as `x86-64-v3` and `x86-64-v2`.
+    pub hwcaps: &'a [&'a [u8]],
     /// The linker's cache, if it is to count, and the flags of the libraries that the program can load.
     pub cache: Option<&'a LinkerCache<'a>>,
     pub flags: LibraryFlags,
@@ -75,13 +77,14 @@ impl<'a> Surroundings<'a> {
 }
 
 /// Where a library is searched for: in the folders of search paths, then at the path that the cache has for its name, and
-/// then in the folders that count in place of a cache and in the usual ones. No path of the cache below an excluded folder
-/// counts.
+/// then in the folders that count in place of a cache and in the usual ones; among the folders are their subfolders of
+/// `glibc-hwcaps`. No path of the cache below an excluded folder counts.
 #[derive(Debug, Drop)]
 pub struct SearchPlaces<'a> {
     pub folders: Vec<Vec<u8>>,
     pub cache: Option<&'a LinkerCache<'a>>,
     pub flags: LibraryFlags,
+    pub hwcaps: &'a [&'a [u8]],
     pub excluded: &'a [&'a [u8]],
     pub usual: Vec<Vec<u8>>,
 }
@@ -353,6 +356,48 @@ fn folders(
     Ok(all)
 }
 
+// The subfolder of a folder for some processors.
+fn in_hwcap(alloc: Global, folder: &[u8], hwcap: &[u8]) -> Result<Vec<u8>, AllocError>
+    ensures { IfOk result (λ path. path.items ≡ in_hwcap folder.now hwcap.now) }
+{
+    let mut path = joined_path(alloc, folder, b"glibc-hwcaps/")?;
+    path.extend_from_slice(hwcap)?;
+    Ok(path)
+}
+
+// A folder after its subfolders, added to others.
+fn add_with_hwcaps(
+    alloc: Global,
+    hwcaps: &[&[u8]],
+    folder: &[u8],
+    folders: &mut Vec<Vec<u8>>,
+) -> Result<(), AllocError>
+    ensures { OnOk result (map vec_items folders.new.items
+        ≡ map vec_items folders.old.items ++ with_hwcaps (folders_view hwcaps.now) folder.now) }
+{
+    for hwcap in hwcaps {
+        folders.push(in_hwcap(alloc, folder, hwcap)?)?;
+    }
+    folders.push(folder.to_vec(alloc)?)?;
+    Ok(())
+}
+
+// Each folder after its subfolders.
+fn with_hwcaps(
+    alloc: Global,
+    hwcaps: &[&[u8]],
+    folders: &[Vec<u8>],
+) -> Result<Vec<Vec<u8>>, AllocError>
+    ensures { IfOk result (λ all. map vec_items all.items
+        ≡ flat_map (with_hwcaps (folders_view hwcaps.now)) (map vec_items folders.now)) }
+{
+    let mut all = Vec::new(alloc);
+    for folder in folders {
+        add_with_hwcaps(alloc, hwcaps, folder, &mut all)?;
+    }
+    Ok(all)
+}
+
 // Whether a path is that of a file below a folder.
 fn is_below(path: &[u8], folder: &[u8]) -> bool
     ensures { result ≡ is_below path.now folder.now }
@@ -466,11 +511,12 @@ pub fn places<'a>(
     let excluded = excluded_folders(object, surroundings);
     let usual = usual_folders(alloc, surroundings, excluded)?;
     Ok(SearchPlaces {
-        folders,
+        folders: with_hwcaps(alloc, surroundings.hwcaps, &folders)?,
         cache: surroundings.cache,
         flags: surroundings.flags,
+        hwcaps: surroundings.hwcaps,
         excluded,
-        usual,
+        usual: with_hwcaps(alloc, surroundings.hwcaps, &usual)?,
     })
 }
 
@@ -480,7 +526,9 @@ impl<'a> SearchPlaces<'a> {
         ensures { path_view result ≡ cached_at (places_view self.now) name.now }
     {
         match self.cache {
-            Some(cache) => if_outside(self.excluded, cache.lookup(&self.flags, name)),
+            Some(cache) => {
+                if_outside(self.excluded, cache.lookup(&self.flags, self.hwcaps, name))
+            }
             None => None,
         }
     }

@@ -7,8 +7,8 @@
 //!
 //! Each library is searched for at the paths of `search::candidates`. The first file there is loaded that is an ELF file of
 //! the program's class, byte order and machine; others are passed over, even those at which the dynamic linker stops. Where
-//! its section headers cannot be read, a file is read through its segments, as the dynamic linker reads all files. A file
-//! is known by its path, so another path to it is another file.
+//! its section headers cannot be read, a file is read through its segments, as the dynamic linker reads all files. Two
+//! paths lead to one file if they are the same, or if the files of the system tell so (`Identity`).
 ghost use Rattle.std.specs.Prelude.{◌≡◌, ◌<◌, ◌++◌, ◌∷◌, [], ℕ, List, Some, None, if◌then◌else◌, ◌==◌, length, map};
 ghost use Rattle.std.specs.Prelude.{IfOk, IfSome, Ok, OnOk, position, slice_get, unwrap_or};
 ghost use Rattle.std.specs.Option.{option_map};
@@ -16,7 +16,7 @@ ghost use Rattle.std.specs.Vec.{vec_items};
 ghost use Rattle.std.specs.declared.option.Option.{Option};
 ghost use Rattle.elf.specs.ElfBytes.{view};
 ghost use Rattle.elf.specs.ObjectFile.{object_file};
-ghost use Rattle.elf_reading.specs.Opening.{FileView, headers_of, opened_by_segments, opened_file};
+ghost use Rattle.elf_reading.specs.Opening.{FileView, headers_of, opened_file};
 ghost use Rattle.elf_records.specs.Endian.{any_is_little, any_of_byte};
 ghost use Rattle.elf_records.specs.declared.endian.AnyEndian.{AnyEndian};
 ghost use Rattle.elf_records.specs.Number.{ok_map};
@@ -29,8 +29,8 @@ ghost use Rattle.elf_linking.specs.Tree.{Found, fitting, folder_of, found_in, fo
 ghost use Rattle.elf_linking.specs.Tree.{add, done, expanded, if_filtee, in_order, load, load_all, named_by, step, started};
 ghost use Rattle.elf_linking.specs.Tree.{known, last_slash, loader_at, loaders_at, no_names, place_of, places_at, places_in};
 ghost use Rattle.elf_linking.specs.Tree.{names_of as names_of_entry, put_before, with_file, with_libraries, without_bytes};
-ghost use Rattle.elf_linking.specs.Tree.{or_other, program_entry, waits};
-ghost use Rattle.elf_linking.specs.Tree.{same_class, same_kind, same_order, searching, searching_at};
+ghost use Rattle.elf_linking.specs.Tree.{identity_of, is_object, linked_file, program_entry, waits, with_identity};
+ghost use Rattle.elf_linking.specs.Tree.{same_class, same_file, same_kind, same_order, searching, searching_at};
 ghost use Rattle.elf_linking.specs.inner.LoadedNames.{AreNamesOf};
 ghost use Rattle.elf_linking.specs.inner.Loading.{loading_view, named_in};
 ghost use Rattle.std.specs.List.{list_any};
@@ -88,10 +88,21 @@ pub struct Kind {
     pub machine: u16,
 }
 
+/// Which file of a system a file is (POSIX, `<sys/stat.h>`): two paths may lead to one file.
+#[derive(Debug, Clone, Copy)]
+pub struct Identity {
+    /// The number of the device, `st_dev`.
+    pub device: u64,
+    /// The number of the file on the device, `st_ino`.
+    pub inode: u64,
+}
+
 /// A file that was opened, as a program or a library.
 #[derive(Debug, Drop)]
 pub struct LoadedFile {
     pub path: Vec<u8>,
+    /// Which file it is, if that is known.
+    pub identity: Option<Identity>,
     /// Its bytes, if they are kept (`open`), or none (`open_names`).
     pub bytes: Vec<u8>,
     pub kind: Kind,
@@ -211,8 +222,7 @@ fn names_of(
 
 // The file that bytes are, through its segments if its section headers cannot be read.
 fn open_bytes(bytes: &[u8]) -> Result<ElfBytes<'_, AnyEndian>, ParseError>
-    ensures { ok_map view result ≡ or_other (opened_file any_is_little any_of_byte bytes.now)
-        (opened_by_segments any_is_little any_of_byte bytes.now) }
+    ensures { ok_map view result ≡ linked_file bytes.now }
 {
     match ElfBytes::<AnyEndian>::minimal_parse(bytes) {
         Ok(file) => Ok(file),
@@ -276,6 +286,7 @@ impl LoadedFile {
         let names = names_of(alloc, &file)?;
         Ok(LoadedFile {
             path,
+            identity: None,
             bytes,
             kind,
             names,
@@ -314,6 +325,7 @@ impl LoadedFile {
         };
         Some(LoadedFile {
             path,
+            identity: None,
             bytes: Vec::new(alloc),
             kind,
             names: Ok(names),
@@ -326,7 +338,21 @@ impl LoadedFile {
     {
         LoadedFile {
             path: self.path,
+            identity: self.identity,
             bytes: Vec::new(alloc),
+            kind: self.kind,
+            names: self.names,
+        }
+    }
+
+    /// The same file with this identity.
+    pub fn with_identity(self, identity: Option<Identity>) -> LoadedFile
+        ensures { found_view result ≡ with_identity identity (found_view self) }
+    {
+        LoadedFile {
+            path: self.path,
+            identity,
+            bytes: self.bytes,
             kind: self.kind,
             names: self.names,
         }
@@ -571,7 +597,7 @@ fn is_loaded_file(names: &LoadedNames, file: &Option<LoadedFile>) -> bool
         → result ≡ is_loaded_file (option_map found_view file.now) objects }
 {
     match file {
-        Some(file) => names.has(&file.path),
+        Some(file) => names.has(&file.path, file.identity),
         None => false,
     }
 }
@@ -592,12 +618,37 @@ fn has_name(object: &Object, name: &[u8]) -> bool
     }
 }
 
-// The place of the first object that has the name.
-fn place_of(objects: &[Object], name: &[u8]) -> Option<usize>
-    ensures { result ≡ place_of 0 name.now (map entry_view objects.now) }
+fn is_same_file(a: Option<Identity>, b: Option<Identity>) -> bool
+    ensures { result ≡ same_file a b }
+{
+    match (a, b) {
+        (Some(a), Some(b)) => a.device == b.device && a.inode == b.inode,
+        _ => false,
+    }
+}
+
+fn identity_of(file: &Option<LoadedFile>) -> Option<Identity>
+    ensures { result ≡ identity_of (option_map found_view file.now) }
+{
+    match file {
+        Some(file) => file.identity,
+        None => None,
+    }
+}
+
+// Whether the object has the name, or is the file.
+fn is_object(object: &Object, name: &[u8], identity: Option<Identity>) -> bool
+    ensures { result ≡ is_object name.now identity (entry_view object.now) }
+{
+    has_name(object, name) || is_same_file(identity, identity_of(&object.file))
+}
+
+// The place of the first object that has the name, or is the file.
+fn place_of(objects: &[Object], name: &[u8], identity: Option<Identity>) -> Option<usize>
+    ensures { result ≡ place_of 0 name.now identity (map entry_view objects.now) }
 {
     for (place, object) in objects.iter().enumerate() {
-        if has_name(object, name) {
+        if is_object(object, name, identity) {
             return Some(place);
         }
     }
@@ -738,16 +789,22 @@ impl Loading {
         Ok(())
     }
 
-    // The same of the object with this name, if it is a filtee.
-    fn if_filtee(&mut self, role: Role, name: &[u8]) -> Result<(), AllocError>
+    // The same of the object with this name, or which is this file, if it is a filtee.
+    fn if_filtee(
+        &mut self,
+        role: Role,
+        name: &[u8],
+        identity: Option<Identity>,
+    ) -> Result<(), AllocError>
         ensures names { self.new.names ≡ self.old.names }
         ensures objects { self.new.objects ≡ self.old.objects }
-        ensures view { OnOk result (loading_view self.new ≡ if_filtee role name.now (loading_view self.old)) }
+        ensures view { OnOk result (loading_view self.new
+            ≡ if_filtee role name.now identity (loading_view self.old)) }
     {
         match role {
             Role::Needed => Ok(()),
             Role::Auxiliary | Role::Filter => {
-                let place = place_of(&self.objects, name);
+                let place = place_of(&self.objects, name, identity);
                 self.put_before(place)
             }
         }
@@ -770,8 +827,9 @@ impl Loading {
         match file {
             Some(file) => {
                 let path = Vec::from_slice(alloc, &file.path)?;
+                let identity = file.identity;
                 self.add(alloc, name, loader, Some(file))?;
-                self.if_filtee(role, &path)
+                self.if_filtee(role, &path, identity)
             }
             None => match role {
                 Role::Needed | Role::Filter => self.add(alloc, name, loader, None),
@@ -794,8 +852,8 @@ impl Loading {
             → loading_view self.new ≡ load opened naming.now.kind (places_view naming.now.places.now) naming.now.place
             (loading_view self.old) (record { role = role; name = name.items })) }
     {
-        if self.names.has(&name) {
-            return self.if_filtee(role, &name);
+        if self.names.has(&name, None) {
+            return self.if_filtee(role, &name, None);
         }
         let file = find(alloc, naming.opener, naming.kind, naming.places, &name)?;
         self.with_file(alloc, role, name, naming.place, file)
@@ -911,15 +969,15 @@ impl Loading {
     }
 }
 
-/// Returns a program and the libraries that it loads, in the order in which they are loaded, with those that are missing
-/// at the place where they were needed, and the order in which symbols are looked up in them. `surroundings` has what
+/// Returns a program and the libraries that it loads, in the order in which they are loaded, each missing one in the
+/// place in which it was needed, and the order in which symbols are looked up in them. `surroundings` has what
 /// belongs to no object. The only error is a failed allocation.
 ///
 /// A missing library is listed once for each object that needs it, as often as the object names it, since each has search
-/// paths of its own; a missing filtee is, if it is one of `DT_FILTER`. No file is loaded twice under one path. So there are
-/// at most as many objects as the files that can be read have paths, and as the entries `DT_NEEDED`, `DT_FILTER` and
-/// `DT_AUXILIARY` in these. For an entry at most one file is read in each folder, and one that the cache lists, and none if
-/// the library is loaded already.
+/// paths of its own; a missing filtee is, if it is one of `DT_FILTER`. No file is loaded twice that is known to be one. So there
+/// are at most as many objects as the files that can be read have paths, and as the entries `DT_NEEDED`, `DT_FILTER` and
+/// `DT_AUXILIARY` in these. For an entry at most one file is read in each folder and each of its subfolders of
+/// `glibc-hwcaps`, and one that the cache lists, and none if the library is loaded already.
 pub fn load_order<O: Opener>(
     alloc: Global,
     opener: &O,

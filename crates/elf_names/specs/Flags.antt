@@ -24,7 +24,7 @@ flag_of flag = (flag.0, flag.1, flag.2.now)
 abbrev pub flags_of : List (ℕ × ℕ × Bor (List ℕ)) → List Flag
 flags_of table = map flag_of table
 
--- of DT_FLAGS, DT_FLAGS_1, sh_flags and p_flags
+-- of DT_FLAGS, DT_FLAGS_1, sh_flags, p_flags, and vd_flags and vna_flags
 unfoldable pub dynamic_flags : List Flag
 dynamic_flags = flags names.DYNAMIC.now
 
@@ -36,6 +36,9 @@ section_flags = flags names.SECTION.now
 
 unfoldable pub segment_flags : List Flag
 segment_flags = flags names.SEGMENT.now
+
+unfoldable pub version_flags : List Flag
+version_flags = flags names.VERSION.now
 
 -- of e_flags, by the machine
 unfoldable pub file_flags : ℕ → List Flag

@@ -1,3 +1,4 @@
+pub mod Attributes
 pub mod Flags
 pub mod Machines
 pub mod Notes

@@ -1,7 +1,7 @@
 //! The names of flags: single bits, and fields of some bits.
 ghost use Rattle.std.specs.Prelude.{◌≡◌};
 ghost use Rattle.elf_names.specs.Flags.{dynamic_flags, dynamic_flags_1, file_flags, flag_of, flags_of, is_set};
-ghost use Rattle.elf_names.specs.Flags.{section_flags, segment_flags};
+ghost use Rattle.elf_names.specs.Flags.{section_flags, segment_flags, version_flags};
 
 use crate::machines::GNU_ALPHA;
 use elf_abi::abi;
@@ -49,6 +49,14 @@ pub fn segment_flags() -> Flags
     ensures { flags_of result.now ≡ segment_flags }
 {
     SEGMENT
+}
+
+/// Returns the flags of `vd_flags` and `vna_flags` (GNU symbol versioning).
+#[tactic(auto, unfolding(crate::specs::Flags::version_flags))]
+pub fn version_flags() -> Flags
+    ensures { flags_of result.now ≡ version_flags }
+{
+    VERSION
 }
 
 /// `DT_FLAGS` (gABI, chapter "Dynamic Section").
@@ -114,6 +122,13 @@ pub const SECTION: Flags = &[
 
 /// `p_flags` (gABI, chapter "Program Header").
 pub const SEGMENT: Flags = &[(0x1, 0x1, "PF_X"), (0x2, 0x2, "PF_W"), (0x4, 0x4, "PF_R")];
+
+/// `vd_flags` and `vna_flags` (GNU symbol versioning).
+pub const VERSION: Flags = &[
+    (0x1, 0x1, "VER_FLG_BASE"),
+    (0x2, 0x2, "VER_FLG_WEAK"),
+    (0x4, 0x4, "VER_FLG_INFO"),
+];
 
 /// Returns the flags of `e_flags` that this machine (`e_machine`) gives.
 #[tactic(auto, unfolding(crate::specs::Flags::file_flags))]

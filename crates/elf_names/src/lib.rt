@@ -1,6 +1,7 @@
 //! Names that a machine, a system or a linker gives to numbers, beyond those of `elf_abi::to_str`.
 #![tactic(auto)]
 
+pub mod attributes;
 pub mod flags;
 pub mod machines;
 pub mod notes;

@@ -22,8 +22,22 @@ pub fn machine_name(e_machine: u16) -> Option<&'static str>
 /// in use without being assigned.
 pub const IN_USE: Names<u16> = &[
     (abi::EM_LANAI, "EM_LANAI"),
+    (245, "EM_CEVA"),
+    (246, "EM_CEVA_X2"),
+    (248, "EM_GRAPHCORE_IPU"),
+    (249, "EM_IMG1"),
+    (250, "EM_NFP"),
     (abi::EM_CSKY, "EM_CSKY"),
+    (253, "EM_ARC_COMPACT3_64"),
+    (254, "EM_MCS6502"),
+    (255, "EM_ARC_COMPACT3"),
+    (256, "EM_KVX"),
+    (257, "EM_65816"),
     (abi::EM_LOONGARCH, "EM_LOONGARCH"),
+    (259, "EM_KF32"),
+    (260, "EM_U16_U8CORE"),
+    (261, "EM_TACHYUM"),
+    (262, "EM_56800EF"),
     (GNU_ALPHA, "EM_ALPHA"),
 ];
 

@@ -4,4 +4,4 @@ mod slice;
 mod source;
 
 pub use slice::{Opened, open, open_by_segments};
-pub use source::{SourceHeaders, open_source};
+pub use source::{SourceHeaders, open_source, open_source_by_segments};

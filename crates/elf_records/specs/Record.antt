@@ -97,7 +97,7 @@ ReadsLocally {A = A} size gives =
 
 -- ---- a type of records
 
--- how many bytes a record has, the record at an offset or the error, where its read leaves the offset, and
+-- how many bytes a record has, the record at an offset or the error, the offset after its read, and
 -- the laws of these; whether a record is local, and then the law of that
 pub record RecordType (A : Type 0) : Type 0 where
   pub size : Class → ℕ

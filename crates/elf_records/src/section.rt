@@ -114,7 +114,7 @@ fn parse_front<E: EndianParse>(
 ) -> Result<(u32, u32, u64, u64, u64), ParseError>
     ensures value { ok_map five result ≡ part_at (E.little endian) (front_fields class) «data».now offset.old }
     ensures moved { offset.new ≡ part_end (E.little endian) (front_fields class) «data».now offset.old }
-    ensures behind { OnOk result (offset.new ≡ offset.old + width_of (front_fields class)) }
+    ensures after { OnOk result (offset.new ≡ offset.old + width_of (front_fields class)) }
 {
     let sh_name = endian.parse_u32_at(offset, data)?;
     let sh_type = endian.parse_u32_at(offset, data)?;

@@ -133,7 +133,7 @@ fn parse_extent<E: EndianParse>(
 ) -> Result<(u64, u64, u64, u64, u64), ParseError>
     ensures value { ok_map five result ≡ part_at (E.little endian) (extent_fields class) «data».now offset.old }
     ensures moved { offset.new ≡ part_end (E.little endian) (extent_fields class) «data».now offset.old }
-    ensures behind { OnOk result (offset.new ≡ offset.old + width_of (extent_fields class)) }
+    ensures after { OnOk result (offset.new ≡ offset.old + width_of (extent_fields class)) }
 {
     let p_offset = parse_by_class(endian, class, offset, data)?;
     let p_vaddr = parse_by_class(endian, class, offset, data)?;

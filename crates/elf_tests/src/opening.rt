@@ -1,10 +1,14 @@
-//! Files that a user's own order opens, and the caller that README shows.
+//! Files that a user's own order opens, sources whose section headers are lost, and the caller that README shows.
 use crate::files::{HEADER_ALONE, TWO_SECTIONS, TWO_SECTIONS_BIG};
 use crate::refusals::refusal;
-use elf::ElfBytes;
-use elf::endian::NativeEndian;
+use crate::sizes::{IDENT, bytes_at};
+use crate::sources::{Halting, is_of_source};
+use elf::endian::{AnyEndian, NativeEndian};
+use elf::{ElfBytes, ElfStream, MemSource, ParseError};
 use elf_user_types::example::count_named;
 use elf_user_types::order::FileOrder;
+use std::alloc::{AllocError, Global};
+use std::cell::Cell;
 use std::test::Fail;
 
 #[test]
@@ -31,5 +35,68 @@ fn the_machines_order_is_a_type(rt: HostRuntime) -> Result<(), Fail> {
 fn named_sections_are_counted(rt: HostRuntime) -> Result<(), Fail> {
     assert_eq!(rt; count_named(&TWO_SECTIONS)?, 2);
     assert_eq!(rt; count_named(&HEADER_ALONE)?, 0);
+    Ok(())
+}
+
+/// A 64-bit file with one segment of type PT_LOAD, cut off after this number of bytes. Its section headers are past its end.
+fn lost_sections(alloc: Global, len: usize) -> Result<Vec<u8>, AllocError> {
+    // e_phoff, e_shoff, e_phentsize, e_phnum, e_shentsize, e_shnum; p_type, p_filesz
+    let mut file = bytes_at(
+        alloc,
+        64 + 56,
+        &[
+            (0, IDENT),
+            (32, &[64]),
+            (40, &[0xff, 0xff, 0xff, 0x7f]),
+            (54, &[56]),
+            (56, &[1]),
+            (58, &[64]),
+            (60, &[1]),
+            (64, &[1]),
+            (96, &[8]),
+        ],
+    )?;
+    file.truncate(len);
+    Ok(file)
+}
+
+/// A stream over bytes.
+type Stream<'a> = ElfStream<AnyEndian, MemSource<'a>, Global>;
+
+#[test]
+fn a_source_is_opened_by_its_segments(rt: HostRuntime) -> Result<(), Fail> {
+    let file = lost_sections(rt.alloc(), 64 + 56)?;
+    let with_sections = Stream::open_stream(rt.alloc(), MemSource::new(&file));
+    let refused = refusal(rt.alloc(), with_sections)?;
+    assert!(rt; refused.as_str() == "BadOffset(2147483711)", "{refused}");
+    let stream = Stream::open_stream_by_segments(rt.alloc(), MemSource::new(&file))?;
+    assert!(rt; stream.ehdr.e_shoff == 0x7fff_ffff && stream.section_headers().is_empty());
+    let [segment] = stream.segments().as_slice() else {
+        return Err(Fail::from("not one segment"));
+    };
+    assert!(rt; segment.p_type == 1 && segment.p_filesz == 8);
+    Ok(())
+}
+
+#[test]
+fn a_source_without_its_segments_is_refused(rt: HostRuntime) -> Result<(), Fail> {
+    let file = lost_sections(rt.alloc(), 64 + 55)?;
+    let stream = Stream::open_stream_by_segments(rt.alloc(), MemSource::new(&file));
+    let refused = refusal(rt.alloc(), stream)?;
+    assert!(rt; refused.as_str() == "BadOffset(120)", "{refused}");
+    let bytes = refusal(rt.alloc(), ElfBytes::<AnyEndian>::parse_by_segments(&file))?;
+    assert!(rt; bytes.as_str() == "SliceReadError((64, 120))", "{bytes}");
+    Ok(())
+}
+
+#[test]
+fn a_source_that_fails_is_not_opened_by_its_segments(rt: HostRuntime) -> Result<(), Fail> {
+    let file = lost_sections(rt.alloc(), 64 + 56)?;
+    let calls_left = Cell::new(2);
+    let source = Halting::new(&file, 64, &calls_left);
+    match ElfStream::<AnyEndian, _, Global>::open_stream_by_segments(rt.alloc(), source) {
+        Err(ParseError::IOError(error)) => assert!(rt; is_of_source(&error)),
+        _ => return Err(Fail::from("not the failure of the source")),
+    }
     Ok(())
 }

@@ -4,5 +4,6 @@ pub mod LoadPlan
 pub mod HashLint
 pub mod SymbolVersions
 pub mod Addresses
+pub mod DebugLink
 pub mod Known
 pub mod inner

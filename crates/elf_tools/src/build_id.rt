@@ -1,5 +1,5 @@
 //! The build id of a file, which distinguishes one build from all others.
-ghost use Rattle.std.specs.Prelude.{◌≡◌, IfErr, IfOk};
+ghost use Rattle.std.specs.Prelude.{◌≡◌, IfErr, Ok};
 ghost use Rattle.std.specs.Option.{option_map};
 ghost use Rattle.elf_parts.specs.Note.{notes_left};
 ghost use Rattle.elf_records.specs.Number.{ok_map};
@@ -7,8 +7,8 @@ ghost use Rattle.elf.specs.Parts.{IsPlain, loaded};
 ghost use Rattle.elf.specs.StreamFile.{stream_file};
 ghost use Rattle.elf_reading.specs.Refusals.{Kind, kind};
 ghost use Rattle.elf_tools.specs.BuildId.{MissesId, build_id, first_id, sections_id, segments_id};
-ghost use Rattle.elf_linking.specs.Missing.{LoadsMissing};
-ghost use Rattle.elf_linking.specs.Readings.{ReadsFile};
+ghost use Rattle.elf_linking.specs.Missing.{LoadsMissing, loaded_part};
+ghost use Rattle.elf_linking.specs.Readings.{IsCopy, NeedsMemory, ReadsFile};
 
 use elf::endian::EndianParse;
 use elf::note::{Note, NoteIterator};
@@ -87,8 +87,7 @@ pub fn build_id<'f, E: EndianParse, R: Reader<E>>(
 
 // A copy of a build id, if there is one.
 fn copied(alloc: Global, id: Option<&[u8]>) -> Result<Option<Vec<u8>>, ParseError>
-    ensures same { IfOk result (λ copy. option_map (λ id. id.items) copy ≡ option_map (λ id. id.now) id.entry) }
-    ensures memory { IfErr result (λ e. kind e ≡ Kind.AllocationFailure) }
+    ensures { IsCopy (λ copy. copy.items) (Ok (option_map (λ id. id.now) id.entry)) result }
 {
     match id {
         Some(id) => Ok(Some(id.to_vec(alloc)?)),
@@ -97,18 +96,22 @@ fn copied(alloc: Global, id: Option<&[u8]>) -> Result<Option<Vec<u8>>, ParseErro
 }
 
 /// Returns of a stream what `build_id` returns of a file in memory, copied. Loads each range that is missing, and no
-/// other: the segments and sections of notes, in their order, up to the one that has the build id. The error is that of
-/// `build_id`, that of the source if it failed, or `OutOfMemory` if an allocation failed.
+/// other: the segments and sections of notes, in their order, up to the one that has the build id.
+///
+/// The error is that of `build_id`; `IOError` exactly if the source failed; or `OutOfMemory` if an allocation failed,
+/// which is possible only if a range was missing or the file has a build id, which is copied.
 pub fn read_build_id<E: EndianParse, S: StreamSource>(
     alloc: Global,
     stream: &mut ElfStream<E, S, Global>,
 ) -> Result<Option<Vec<u8>>, ParseError>
-    ensures id { ReadsFile stream.old stream.new result (option_map (λ id. id.items))
-        (λ bytes. build_id (stream_file E.little stream.old bytes)) }
+    ensures id { ReadsFile kind (option_map (λ id. id.items)) (λ bytes. build_id (stream_file E.little stream.old bytes))
+        stream.old stream.new result }
+    ensures memory { IfErr result (λ e. kind e ≡ Kind.AllocationFailure
+        → NeedsMemory (build_id (loaded_part E.little stream.old))) }
     ensures only { LoadsMissing E.little MissesId stream.old stream.new }
 {
     // Each round loads a range that was missing, and no source has that many.
-    'rounds: for _ in 0..u64::MAX {
+    'rounds: for round in 0..u64::MAX {
         stream.is_part_of_file();
         let error = match build_id(&*stream) {
             Ok(id) => return copied(alloc, id),

@@ -1,10 +1,11 @@
 //! Callers of the library, each in a module of its own, with the contract that its user needs: `build_id`, `functions`,
-//! `load_plan`, `hash_lint`, `symbol_versions` and `addresses`. The program `elf_cases` prints the results of the first
-//! four. `laws` has theorems for their callers, and `worked` the definitions of the last two at known values.
+//! `load_plan`, `hash_lint`, `symbol_versions`, `addresses` and `debug_link`. The program `elf_cases` prints the results of
+//! the first four. `laws` has theorems for their callers, and `worked` the definitions of the last three at known values.
 #![tactic(auto)]
 
 pub mod addresses;
 pub mod build_id;
+pub mod debug_link;
 pub mod functions;
 pub mod hash_lint;
 pub mod laws;

@@ -1,10 +1,12 @@
 //! The definitions at known values.
-ghost use Rattle.std.specs.Prelude.{◌≡◌, ◌∷◌, [], true, false, None, Some, Ok, Err};
+ghost use Rattle.std.specs.Prelude.{◌≡◌, ◌++◌, ◌∷◌, [], codes, true, false, None, Some, Ok, Err};
 ghost use Rattle.elf_linking.specs.Binding.{unreadable};
 ghost use Rattle.elf_tools.specs.Addresses.{code_address, has_address, located_symbols, nearest, nearest_in};
+ghost use Rattle.elf_tools.specs.DebugLink.{debug_alt_link, debug_link};
 ghost use Rattle.elf_tools.specs.Known.{by_address, found, symbol_at};
 ghost use Rattle.elf_tools.specs.Known.{located_at, own_version, version_of_f, versions};
 ghost use Rattle.elf_tools.specs.SymbolVersions.{symbol_version_in, symbol_version};
+ghost use Rattle.elf_tools.specs.declared.debug_link.DebugLinkError.TheVariants.{EndlessName, NoChecksum};
 
 /// Functions and objects that a section defines have an address.
 pub fn symbols_with_an_address()
@@ -65,4 +67,34 @@ pub fn versions_of_symbols()
     ensures no_index { symbol_version versions 8 ≡ Err (unreadable 8) }
     ensures no_versions { symbol_version_in None 2 ≡ Ok None }
     ensures some_versions { symbol_version_in (Some versions) 2 ≡ own_version true }
+{}
+
+/// Links as GNU objcopy writes them to a file of the bytes `123456789`, whose CRC-32 is 0xcbf43926, with none to three
+/// bytes after the zero byte; the same in big order; and those that cannot be read.
+#[tactic(auto, unfolding(elf_records::specs::Number::number_at, elf_records::specs::Number::bytes_at))]
+pub fn links_to_debug_information()
+    ensures none { debug_link true (codes "a.debug\0" ++ 0x26 ∷ 0x39 ∷ 0xf4 ∷ 0xcb ∷ [])
+        ≡ Ok (record { name = codes "a.debug"; crc = 0xcbf43926 }) }
+    ensures three { debug_link true (codes "ab.debug\0\0\0\0" ++ 0x26 ∷ 0x39 ∷ 0xf4 ∷ 0xcb ∷ [])
+        ≡ Ok (record { name = codes "ab.debug"; crc = 0xcbf43926 }) }
+    ensures two { debug_link true (codes "abc.debug\0\0\0" ++ 0x26 ∷ 0x39 ∷ 0xf4 ∷ 0xcb ∷ [])
+        ≡ Ok (record { name = codes "abc.debug"; crc = 0xcbf43926 }) }
+    ensures one { debug_link true (codes "abcd.debug\0\0" ++ 0x26 ∷ 0x39 ∷ 0xf4 ∷ 0xcb ∷ [])
+        ≡ Ok (record { name = codes "abcd.debug"; crc = 0xcbf43926 }) }
+    ensures big { debug_link false (codes "a.debug\0" ++ 0xcb ∷ 0xf4 ∷ 0x39 ∷ 0x26 ∷ [])
+        ≡ Ok (record { name = codes "a.debug"; crc = 0xcbf43926 }) }
+    ensures other_bytes { debug_link true (codes "abc\0" ++ 1 ∷ 2 ∷ 3 ∷ 0 ∷ 9 ∷ [])
+        ≡ Ok (record { name = codes "abc"; crc = 0x30201 }) }
+    ensures cut { debug_link true (codes "abc\0" ++ 1 ∷ 2 ∷ 3 ∷ []) ≡ Err NoChecksum }
+    ensures no_checksum { debug_link true (codes "ab.debug\0\0") ≡ Err NoChecksum }
+    ensures no_end { debug_link true (codes "ab.debug") ≡ Err EndlessName }
+    ensures empty { debug_link true [] ≡ Err EndlessName }
+{}
+
+/// Links as `dwz` writes them.
+pub fn links_to_shared_debug_information()
+    ensures link { debug_alt_link (codes "a.dwz\0" ++ 0xd1 ∷ 0 ∷ 0x2f ∷ [])
+        ≡ Ok (record { name = codes "a.dwz"; build_id = 0xd1 ∷ 0 ∷ 0x2f ∷ [] }) }
+    ensures no_id { debug_alt_link (codes "a.dwz\0") ≡ Ok (record { name = codes "a.dwz"; build_id = [] }) }
+    ensures no_end { debug_alt_link (codes "a.dwz") ≡ Err EndlessName }
 {}

@@ -95,7 +95,7 @@ module _ {E : Type 0} (little : E → Bool) where
   pub none_loaded : (s : StreamView E) → LeavesAll little [] s s (Ok tt)
   none_loaded s = record {
     left = record {
-      keeps = record { content = refl; can_fail = refl; headers = refl; size = refl; cached = λ start end h. h };
+      keeps = record { content = refl; can_fail = refl; by_segments = refl; headers = refl; size = refl; cached = λ start end h. h };
       loaded = tt;
       only = λ start end h. inl h;
       untouched = λ cached. (refl, tt);

@@ -11,7 +11,7 @@ mod changes;
 mod source;
 
 use changes::change;
-use elf_linking::tree::Libraries;
+use elf_linking::tree::{Identity, Libraries};
 use nugwier_commands::run::run;
 use nugwier_files::files::Files;
 use nugwier_files::folder::Entry;
@@ -68,8 +68,20 @@ impl Files for CaseFiles<'_> {
         }
     }
 
+    // As of the libraries: none of the machine's files counts.
+    fn read_front(&self, path: &[u8], most: usize) -> Result<Option<Vec<u8>>, AllocError> {
+        if path.starts_with(b"/") {
+            return Ok(None);
+        }
+        self.system.read_front(path, most)
+    }
+
     fn folder(&self, path: &str) -> io::Result<Option<Vec<Entry>>> {
         self.system.folder(path)
+    }
+
+    fn identity(&self, path: &[u8]) -> Result<Option<Identity>, AllocError> {
+        self.system.identity(path)
     }
 
     fn has_libraries(&self) {}

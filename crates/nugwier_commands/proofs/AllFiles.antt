@@ -1,28 +1,27 @@
 -- What is said of several files, or of the members of an archive, in order.
 use Rattle.std.proofs.Common.{◌≡◌, ◌&&◌, ◌+◌, ◌<◌, ℕ, Bool, true, false, List, [], ◌∷◌, ◌++◌, IfSome, Option, Some, None, Ok, drop}
-use Rattle.std.proofs.Common.{get_or, length, refl, sym, ap, ◌∙◌, subst, append_assoc, append-nil}
+use Rattle.std.proofs.Common.{get_or, length, refl, sym, ap, ◌∙◌, subst}
 use Rattle.std.proofs.Math.Bool.{and-true, and_assoc}
-use Rattle.std.proofs.lemmas.Grind.{flat_map-append}
 use Rattle.std.proofs.lemmas.List.{drop_more}
 use Rattle.std.proofs.lemmas.List.Folds.{list_all-append}
 use Rattle.std.proofs.lemmas.Result.{IfOk-at_ok}
 use Rattle.std.specs.Borrow.{Bor}
-use Rattle.std.specs.Io.KnownBytes.{Appends}
-use Rattle.std.specs.List.{flat_map, list_all}
+use Rattle.std.specs.List.{list_all}
 use Rattle.elf_archive.specs.Archive.{Item}
 use Rattle.nugwier_commands.specs.Run.{AreAllTold, AreFilesSaid, AreItemsSaid, ArePlacesSaid, AreWritten, IsFoundTold}
-use Rattle.nugwier_commands.specs.Run.{IsItemSaid, IsProblemsOf, IsWritten, Known, Listing, Written, heading_of}
-use Rattle.nugwier_commands.specs.Run.{listing_text, next_heading}
+use Rattle.nugwier_commands.specs.Run.{IsListingText, IsProblemsText, IsWritten, Known, Listing, Written}
+use Rattle.nugwier_commands.specs.Run.{heading_of, next_heading}
 use Rattle.nugwier_commands.specs.Walk.{AreFound, Found, IsNextFound}
 use Rattle.nugwier_commands.specs.declared.ended.Ended.{Ended}
 use Rattle.nugwier_commands.specs.inner.Loading.{AreSaidAndWritten, IsItemEnded, IsPathEnded, written_by}
 use Rattle.nugwier_programs.proofs.Configuring.{both}
 use Rattle.nugwier_files.specs.Folder.{KnownFiles, Place}
-use Rattle.nugwier_report.specs.Problems.{IsProblemsText}
 use Rattle.nugwier_report.specs.declared.kind.Kind.{Kind}
 use Rattle.nugwier_report.specs.declared.report.Format.{Format}
 use Rattle.nugwier_report.specs.declared.report.Summary.{Summary}
 use Rattle.nugwier_report.specs.Said.{all_right}
+use Rattle.nugwier_report.specs.Told.{IsLine, IsToldLine}
+use Rattle.nugwier_report.proofs.Telling.{appends_none, written_both as of_both, written_one as as_one}
 use Rattle.nugwier_words.specs.Words.{Task}
 
 -- whether nothing is wrong, and whether no write of a problem failed
@@ -32,62 +31,30 @@ summary_of is_right is_told = record { is_right = is_right; is_told = is_told }
 abbrev are_right : List Listing → Bool
 are_right all = list_all (λ (listing : Listing). all_right listing.said) all
 
-append_both : (a b c : Option (List ℕ)) (x y : List ℕ) → Appends a b x → Appends b c y → Appends a c (x ++ y)
-append_both None b c x y h k = tt
-append_both (Some a) None c x y h k = absurd h
-append_both (Some a) (Some b) None x y h k = k
-append_both (Some a) (Some b) (Some c) x y h k = k ∙ ap (λ (t : List ℕ). t ++ y) h ∙ append_assoc a x y
-
-append_none : (a : Option (List ℕ)) → Appends a a []
-append_none None = tt
-append_none (Some a) = sym (append-nil a)
-
 both_true : (a b : Bool) → (a && b) ≡ true → (a ≡ true) × (b ≡ true)
 both_true true b h = (refl, h)
 both_true false b h = absurd (cc h)
 
--- the problems of some listings, and then those of others
-problems_both : (own rest : List Listing) (x y : List ℕ) → IsProblemsOf own x → IsProblemsOf rest y → IsProblemsOf (own ++ rest) (x ++ y)
-problems_both [] rest x y is more = subst (λ (t : List ℕ). IsProblemsOf rest (t ++ y)) (sym is) more
-problems_both (listing ∷ own) rest x y is more = (
-  is.0,
-  is.1 ++ y,
-  is.2,
-  problems_both own rest is.1 y is.3 more,
-  ap (λ (t : List ℕ). t ++ y) is.4 ∙ append_assoc is.0 is.1 y,
-)
-
 -- one listing
 pub written_one : (format : Format) (now next : Written) (summary : Summary) (own : Listing)
     → IsWritten format own.path own.named now next summary own.said → AreWritten format now next summary (own ∷ [])
-written_one format now next summary own written =
-    let problems : summary.is_told ≡ true → (problems : List ℕ) × IsProblemsOf (own ∷ []) problems × Appends now.err next.err problems
-    = λ kept. let told = written.2 kept in (told.0, (told.0, [], told.1, refl, sym (append-nil told.0)), told.2)
-    in (
-      subst (λ (t : List ℕ). Appends now.out next.out t) (sym (append-nil (listing_text format own))) written.0,
-      written.1 ∙ sym (and-true (all_right own.said)),
-      problems,
-    )
+written_one format now next summary own written = (
+  as_one (IsLine format own.path own.named) (IsListingText format) now.out next.out own.said own (λ all is. is) written.0,
+  written.1 ∙ sym (and-true (all_right own.said)),
+  λ kept. as_one (IsToldLine own.path own.named) IsProblemsText now.err next.err own.said own (λ all is. is) (written.2 kept),
+)
 
 written_both : (format : Format) (own rest : List Listing) (now next after : Written) (summary : Summary) (right told : Bool)
     → AreWritten format now next summary own → AreWritten format next after (summary_of right told) rest
     → AreWritten format now after (summary_of (summary.is_right && right) (summary.is_told && told)) (own ++ rest)
-written_both format own rest now next after summary right told is more =
-    let text = listing_text format in
-    let problems : (summary.is_told && told) ≡ true → (problems : List ℕ) × IsProblemsOf (own ++ rest) problems × Appends now.err after.err problems
-    = λ kept. let both = both_true summary.is_told told kept in let first = is.2 both.0 in let then = more.2 both.1 in (
-      first.0 ++ then.0,
-      problems_both own rest first.0 then.0 first.1 then.1,
-      append_both now.err next.err after.err first.0 then.0 first.2 then.2,
-    )
-    in (
-      subst (λ (t : List ℕ). Appends now.out after.out t) (sym (flat_map-append text own rest)) (append_both now.out next.out after.out (flat_map text own) (flat_map text rest) is.0 more.0),
-      ap (λ (b : Bool). b && right) is.1 ∙ ap (λ (b : Bool). are_right own && b) more.1 ∙ sym (list_all-append (λ (listing : Listing). all_right listing.said) own rest),
-      problems,
-    )
+written_both format own rest now next after summary right told is more = (
+  of_both (IsListingText format) now.out next.out after.out own rest is.0 more.0,
+  ap (λ (b : Bool). b && right) is.1 ∙ ap (λ (b : Bool). are_right own && b) more.1 ∙ sym (list_all-append (λ (listing : Listing). all_right listing.said) own rest),
+  λ kept. let both = both_true summary.is_told told kept in of_both IsProblemsText now.err next.err after.err own rest (is.2 both.0) (more.2 both.1),
+)
 
 written_none : (format : Format) (now : Written) → AreWritten format now now (summary_of true true) []
-written_none format now = (append_none now.out, refl, λ kept. ([], refl, append_none now.err))
+written_none format now = (([], refl, appends_none now.out), refl, λ kept. ([], refl, appends_none now.err))
 
 -- ---- some of it was said
 

@@ -1,3 +1,4 @@
+pub mod Reported
 pub mod AllFiles
 mod Trees
 mod Begun

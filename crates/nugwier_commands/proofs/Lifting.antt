@@ -1,8 +1,8 @@
 -- One listing is what is said of a path, or of an item of an archive.
-use Rattle.std.proofs.Common.{ℕ, List, [], ◌∷◌, ◌++◌, IfOk, Option, refl}
+use Rattle.std.proofs.Common.{ℕ, List, [], ◌∷◌, ◌++◌, IfOk, Option}
 use Rattle.std.proofs.lemmas.Result.{IfOk-weaker}
 use Rattle.elf_archive.specs.Archive.{Item}
-use Rattle.nugwier_commands.specs.Run.{AreWritten, IsItemSaid, IsProblemSaid, IsWritten, Known, Listing, Written, heading_said}
+use Rattle.nugwier_commands.specs.Run.{AreWritten, IsItemSaid, IsWritten, Known, Listing, Written, heading_said}
 use Rattle.nugwier_commands.specs.Run.{listing_of}
 use Rattle.nugwier_commands.specs.declared.ended.Ended.{Ended}
 use Rattle.nugwier_commands.specs.inner.Loading.{AreSaidAndWritten, IsItemEnded, IsSaidAndWritten, written_by}

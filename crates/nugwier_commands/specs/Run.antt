@@ -4,7 +4,7 @@ use Rattle.std.specs.Prelude.{Option, Some, None, Result, Ok, Err, IfSome, codes
 use Rattle.std.specs.Borrow.{Bor}
 use Rattle.std.specs.Io.KnownBytes.{Appends}
 use Rattle.std.specs.Fmt.{digits}
-use Rattle.std.specs.List.{flat_map, list_all}
+use Rattle.std.specs.List.{list_all}
 use Rattle.std.specs.Path.{path_with_file_name}
 use Rattle.std.specs.Str.{bytes_eq, is_utf8}
 use Rattle.std.specs.declared.io.Error.{Error}
@@ -27,12 +27,12 @@ use Rattle.elf.specs.ObjectFile.{ObjectFile}
 use Rattle.nugwier_listing.specs.Labels.{names_told}
 use Rattle.nugwier_report.specs.Formats.{front, is_elf, not_elf}
 use Rattle.nugwier_report.specs.Labels.{Named, no_sections}
-use Rattle.nugwier_report.specs.Problems.{AreProblemsTold, IsProblemsText}
 use Rattle.nugwier_report.specs.Said.{Said, all_right, said_if, states, text, whole, wrong}
 use Rattle.nugwier_commands.specs.Walk.{AreFound, Found, file as file_at, named as place_named, unread}
 use Rattle.nugwier_commands.specs.declared.run.Outcome.{Outcome}
 use Rattle.nugwier_commands.specs.declared.run.Outcome.TheVariants.{Done, Stopped, Wrong}
-use Rattle.nugwier_report.specs.Told.{IsTold, told_line}
+use Rattle.nugwier_report.specs.Texts.{AreAppended, AreTexts}
+use Rattle.nugwier_report.specs.Told.{AreProblemsTold, IsLine, IsTold, IsToldLine}
 use Rattle.nugwier_report.specs.declared.kind.Kind.{Kind}
 use Rattle.nugwier_report.specs.declared.kind.Kind.TheVariants.{FileHeading, NextFileHeading}
 use Rattle.nugwier_report.specs.declared.problem.Fault.TheVariants.{OtherFormat, PastEnd, Read, System}
@@ -56,7 +56,7 @@ heading_said heading path = said_if (λ kind. states kind ((codes "path", text (
 
 -- the sections with which problems of a file are told
 abbrev pub named_of : Task → ObjectFile → Named
-named_of task file = record { sections = file.sections; names = names_told task file }
+named_of task file = record { class = file.class; sections = file.sections; names = names_told task file }
 
 -- that the file as a whole is wrong
 abbrev pub IsProblemSaid : Fault → Named → List Said → Type 0
@@ -110,7 +110,7 @@ pub record Written : Type 0 where
 -- problems. The summary says whether nothing of it is wrong
 abbrev pub IsWritten : Format → List ℕ → Named → Written → Written → Summary → List Said → Type 0
 IsWritten format path named before after summary said =
-    IsTold format path before.out after.out said × (summary.is_right ≡ all_right said)
+    IsTold format path named before.out after.out said × (summary.is_right ≡ all_right said)
     × (summary.is_told ≡ true → AreProblemsTold path named before.err after.err said)
 
 -- ---- the files of the words
@@ -181,23 +181,19 @@ pub record Listing : Type 0 where
 abbrev pub listing_of : Option Kind → List ℕ → Named → List Said → Listing
 listing_of heading path named said = record { path = path; named = named; said = heading_said heading path ++ said }
 
-abbrev pub listing_text : Format → Listing → List ℕ
-listing_text format listing = flat_map (told_line format listing.path) listing.said
+-- the text of what is said, and that of what is wrong
+abbrev pub IsListingText : Format → Listing → List ℕ → Type 0
+IsListingText format listing all = AreTexts (IsLine format listing.path listing.named) listing.said all
 
--- the text of all that is wrong
-abbrev pub IsProblemsOf : List Listing → List ℕ → Type 0
-IsProblemsOf [] problems = problems ≡ []
-IsProblemsOf (listing ∷ others) problems =
-    (own : List ℕ) × (after : List ℕ) × IsProblemsText listing.path listing.named listing.said own
-    × IsProblemsOf others after × (problems ≡ own ++ after)
+abbrev pub IsProblemsText : Listing → List ℕ → Type 0
+IsProblemsText listing all = AreTexts (IsToldLine listing.path listing.named) listing.said all
 
 -- all that is said was written
 abbrev pub AreWritten : Format → Written → Written → Summary → List Listing → Type 0
 AreWritten format before after summary all =
-    Appends before.out after.out (flat_map (listing_text format) all)
+    AreAppended (IsListingText format) before.out after.out all
     × (summary.is_right ≡ list_all (λ (listing : Listing). all_right listing.said) all)
-    × (summary.is_told ≡ true → (problems : List ℕ) × IsProblemsOf all problems
-    × Appends before.err after.err problems)
+    × (summary.is_told ≡ true → AreAppended IsProblemsText before.err after.err all)
 
 -- ---- an archive: each member is told as a file
 

@@ -13,6 +13,7 @@ ghost use Rattle.nugwier_words.specs.Words.{task_of};
 
 use elf::ParseError;
 use elf::endian::EndianParse;
+use elf::file::Class;
 use elf_linking::tree::LoadedFile;
 use nugwier_files::files::Files;
 use nugwier_listing::job::{JobTables, say_job};
@@ -35,8 +36,9 @@ pub(crate) struct Target<'j> {
     pub heading: Option<Kind>,
 }
 
-// No section has a name with which problems are told.
+// No section has a name with which problems are told, and no line has an address.
 const NO_LABELS: Labels<'static> = Labels {
+    class: Class::ELF64,
     sections: &[],
     names: None,
 };

@@ -10,7 +10,7 @@ use nugwier_listing::contents::has_name;
 use nugwier_listing::headings::known_names;
 use nugwier_listing::taking::NotTaken;
 use nugwier_listing::typed_sections::{
-    GROUP_TYPES, HASH_TYPES, NOTE_TYPES, RELOCATION_TYPES, VERSION_TYPES,
+    GROUP_TYPES, HASH_TYPES, MACHINE_ATTRIBUTE_TYPES, NOTE_TYPES, RELOCATION_TYPES, VERSION_TYPES,
 };
 use nugwier_words::words::{Command, Job};
 use std::alloc::{AllocError, Global};
@@ -19,8 +19,8 @@ use std::alloc::{AllocError, Global};
 type Range = (u64, u64);
 
 /// Loads the relocations, groups, notes and versions that a job takes, with the sections that they link to, hash
-/// sections, and the sections that it names. A file may declare many of them that overlap: if they are in sum longer
-/// than the file, it is loaded whole. The error is that of the source or of an allocation.
+/// sections, and the sections that it names or takes by their names. A file may declare many of them that overlap: if
+/// they are in sum longer than the file, it is loaded whole. The error is that of the source or of an allocation.
 pub(crate) fn preload<E: EndianParse, S: StreamSource>(
     alloc: Global,
     job: &Job<'_>,
@@ -37,6 +37,9 @@ pub(crate) fn preload<E: EndianParse, S: StreamSource>(
     load(ranges.as_slice(), stream)
 }
 
+// The names of the sections with links to files with debug information.
+static LINK_NAMES: [&str; 2] = [".gnu_debuglink", ".gnu_debugaltlink"];
+
 // Loads the names of sections, if sections are wanted by their names.
 fn load_names<E: EndianParse, S: StreamSource>(
     job: &Job<'_>,
@@ -44,7 +47,7 @@ fn load_names<E: EndianParse, S: StreamSource>(
 ) -> Result<(), ParseError>
     ensures { Keeps stream.old stream.new }
 {
-    if job.contents.is_empty() {
+    if job.contents.is_empty() && !takes_links(job) {
         return Ok(());
     }
     match known_names(&*stream) {
@@ -85,9 +88,16 @@ fn takes_sections(job: &Job<'_>, sh_type: u32) -> bool {
         || takes_notes(job) && NOTE_TYPES.contains(&sh_type)
 }
 
-// Whether a job takes all hash sections. Their symbols are not taken.
-fn takes_chains(job: &Job<'_>) -> bool {
-    matches!(job.command, Command::List) && job.parts.chains
+// Whether a job takes all sections of a type, and not those that they link to: hash sections without their symbols, and
+// build attributes.
+fn takes_alone(job: &Job<'_>, sh_type: u32) -> bool {
+    let lists = matches!(job.command, Command::List);
+    lists && job.parts.chains && HASH_TYPES.contains(&sh_type)
+        || lists && job.parts.attributes && MACHINE_ATTRIBUTE_TYPES.contains(&sh_type)
+}
+
+fn takes_links(job: &Job<'_>) -> bool {
+    matches!(job.command, Command::List) && job.parts.debug_links
 }
 
 fn takes_notes(job: &Job<'_>) -> bool {
@@ -117,6 +127,11 @@ fn ranges_of<E: EndianParse, S: StreamSource>(
     add_sections(job, stream.section_headers().as_slice(), &mut ranges)?;
     for wanted in job.contents.as_slice() {
         add_named(wanted.section, stream, &mut ranges)?;
+    }
+    if takes_links(job) {
+        for name in &LINK_NAMES {
+            add_named(name, stream, &mut ranges)?;
+        }
     }
     Ok(ranges)
 }
@@ -152,7 +167,7 @@ fn add_sections(
                 add_links(sections, section, ranges)?;
             }
             last_link = section.sh_link;
-        } else if takes_chains(job) && HASH_TYPES.contains(&section.sh_type) {
+        } else if takes_alone(job, section.sh_type) {
             add_section(section, ranges)?;
         }
     }

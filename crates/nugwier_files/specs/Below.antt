@@ -16,8 +16,11 @@ contents_below root contents path = contents (below root path)
 
 -- what is known of them
 abbrev pub files_below : Option (List ℕ) → KnownFiles → KnownFiles
-files_below root files =
-    record { contents = contents_below root files.contents; folders = λ path. files.folders (below root path) }
+files_below root files = record {
+  contents = contents_below root files.contents;
+  identities = λ path. files.identities (below root path);
+  folders = λ path. files.folders (below root path);
+}
 
 abbrev pub known_below : Option (List ℕ) → Option KnownFiles → Option KnownFiles
 known_below root known = option_map (files_below root) known

@@ -32,6 +32,7 @@ folder_in [] path = none
 folder_in (folder ∷ folders) path =
     if bytes_eq folder.path.now path then mem_folder folder.entries else folder_in folders path
 
--- what is known of them
+-- what is known of them: which file is at a path is not told
 abbrev pub known_in : MemFiles → KnownFiles
-known_in s = record { contents = content_in (mem_files s); folders = folder_in (mem_folders s) }
+known_in s =
+    record { contents = content_in (mem_files s); identities = λ _. None; folders = folder_in (mem_folders s) }

@@ -2,6 +2,8 @@
 use Rattle.std.specs.Prelude.{ℕ, List, map, Option, Some, None, string_bytes}
 use Rattle.std.specs.Option.{option_map}
 use Rattle.std.specs.Global.{Vec}
+use Rattle.elf_linking.specs.Tree.{Found, opened_names, with_identity}
+use Rattle.elf_linking.specs.declared.tree.Identity.{Identity}
 use Rattle.nugwier_files.specs.declared.folder.Entry.{Entry}
 use Rattle.nugwier_files.specs.declared.folder.EntryKind.{EntryKind}
 
@@ -19,14 +21,19 @@ pub data Folder : Type 0 where
   unreadable : Folder
   has : List Place → Folder
 
--- the content of the file at each path, and what folder is there
+-- the content of the file at each path, which file it is, if that is told, and what folder is there
 pub record KnownFiles : Type 0 where
   pub contents : List ℕ → Option (List ℕ)
+  pub identities : List ℕ → Option Identity
   pub folders : List ℕ → Folder
 
 -- the contents alone, if the files are known
 abbrev pub contents_known : Option KnownFiles → Option (List ℕ → Option (List ℕ))
 contents_known known = option_map (λ (files : KnownFiles). files.contents) known
+
+-- the library at a path, by its names alone
+abbrev pub opened_in : KnownFiles → List ℕ → Option Found
+opened_in files path = option_map (with_identity (files.identities path)) (opened_names files.contents path)
 
 abbrev pub folder_of : Option (Vec Entry) → Folder
 folder_of None = none

@@ -6,7 +6,7 @@ ghost use Rattle.nugwier_files.specs.Below.{below};
 use crate::files::Files;
 use crate::folder::Entry;
 use crate::opening::Opening;
-use elf_linking::tree::Libraries;
+use elf_linking::tree::{Identity, Libraries};
 use std::alloc::{AllocError, Global};
 use std::io;
 
@@ -80,6 +80,16 @@ impl<'a, F: Files> Files for FilesBelow<'a, F> {
         }
     }
 
+    fn read_front(&self, path: &[u8], most: usize) -> Result<Option<Vec<u8>>, AllocError> {
+        match self.root {
+            Some(root) => {
+                let full = below(self.alloc, root, path)?;
+                self.files.read_front(&full, most)
+            }
+            None => self.files.read_front(path, most),
+        }
+    }
+
     fn folder(&self, path: &str) -> io::Result<Option<Vec<Entry>>> {
         match self.root {
             Some(root) => {
@@ -87,6 +97,16 @@ impl<'a, F: Files> Files for FilesBelow<'a, F> {
                 self.files.folder(full.as_str())
             }
             None => self.files.folder(path),
+        }
+    }
+
+    fn identity(&self, path: &[u8]) -> Result<Option<Identity>, AllocError> {
+        match self.root {
+            Some(root) => {
+                let full = below(self.alloc, root, path)?;
+                self.files.identity(&full)
+            }
+            None => self.files.identity(path),
         }
     }
 

@@ -1,6 +1,8 @@
 //! Files by their paths.
-ghost use Rattle.std.specs.Prelude.{◌≡◌, ◌⊎◌, ℕ, List, None, Option, Some, IfErr, IfOk, IfSome};
+ghost use Rattle.std.specs.Prelude.{◌≡◌, ◌⊎◌, ℕ, List, None, Option, Some, IfErr, IfOk, IfSome, take};
 ghost use Rattle.std.specs.IoError.{error_kind};
+ghost use Rattle.std.specs.Option.{option_map};
+ghost use Rattle.std.specs.Vec.{vec_items};
 ghost use Rattle.nugwier_files.specs.Folder.{KnownFiles, contents_known, folder_of, unreadable};
 ghost use Rattle.nugwier_files.specs.Opening.{IsOpening};
 ghost use Rattle.std.specs.declared.io.ErrorKind.TheVariants.{OutOfMemory};
@@ -8,7 +10,8 @@ ghost use Rattle.std.specs.declared.io.ErrorKind.TheVariants.{OutOfMemory};
 use crate::folder::Entry;
 use crate::opening::Opening;
 use elf::StreamSource;
-use elf_linking::tree::Libraries;
+use elf_linking::tree::{Identity, Libraries};
+use std::alloc::AllocError;
 use std::io;
 
 /// Files by their paths.
@@ -35,6 +38,18 @@ pub trait Files: Libraries {
             ⊎ (error_kind error ≡ OutOfMemory))) }
         ensures content { IfOk result (λ content. IfSome (known self.now) (λ files. files.contents path.now
             ≡ Some content.items)) };
+
+    /// Returns which file is at a path, if there is one and the files tell so. Two paths with the same answer lead to one
+    /// file. The only error is a failed allocation.
+    fn identity(&self, path: &[u8]) -> Result<Option<Identity>, AllocError>
+        ensures { IfOk result (λ found. IfSome (known self.now) (λ files. found ≡ files.identities path.now)) };
+
+    /// Returns the first bytes of the regular file at a path, at most as many as `most`, or `None` if there is none that can
+    /// be read. What length the system reports does not count: it reports none for some of its own files. The only error
+    /// is a failed allocation.
+    fn read_front(&self, path: &[u8], most: usize) -> Result<Option<Vec<u8>>, AllocError>
+        ensures { IfOk result (λ front. IfSome (known self.now) (λ files.
+            option_map (take most) (files.contents path.now) ≡ option_map vec_items front)) };
 
     /// Returns the regular files and the folders in the folder at a path by their names, in any order, or `None` if no
     /// folder is there. A link at the path is followed, and those in the folder are left out. The error is that of the

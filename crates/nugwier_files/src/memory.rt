@@ -1,5 +1,5 @@
 //! Files and folders in memory, which are known.
-ghost use Rattle.std.specs.Prelude.{[], ◌≡◌, IfOk, Some, map};
+ghost use Rattle.std.specs.Prelude.{[], ◌≡◌, IfOk, Some, map, take};
 ghost use Rattle.std.specs.Option.{option_map};
 ghost use Rattle.elf_linking.specs.Tree.{content_in};
 ghost use Rattle.nugwier_files.specs.Files.{folder_in, found_folder, mem_place};
@@ -9,8 +9,8 @@ use crate::files::Files;
 use crate::folder::{Entry, EntryKind};
 use crate::opening::Opening;
 use elf::MemSource;
-use elf_linking::tree::Libraries;
 use elf_linking::tree::memory::MemFile;
+use elf_linking::tree::{Identity, Libraries};
 use std::alloc::{AllocError, Global};
 use std::io;
 
@@ -84,6 +84,12 @@ impl<'a> MemFiles<'a> {
     }
 }
 
+fn first_bytes(bytes: &[u8], most: usize) -> &[u8]
+    ensures { result.now ≡ take most bytes.now }
+{
+    bytes.get(..most).unwrap_or(bytes)
+}
+
 // The names of a folder.
 fn copied(alloc: Global, entries: &[MemEntry<'_>]) -> Result<Vec<Entry>, AllocError>
     ensures { IfOk result (λ copies. map place_of copies.items ≡ map mem_place entries.now) }
@@ -124,6 +130,13 @@ impl<'a> Files for MemFiles<'a> {
         Ok(Vec::from_slice(self.alloc, bytes)?)
     }
 
+    fn read_front(&self, path: &[u8], most: usize) -> Result<Option<Vec<u8>>, AllocError> {
+        match self.find(path) {
+            Some(bytes) => Ok(Some(Vec::from_slice(self.alloc, first_bytes(bytes, most))?)),
+            None => Ok(None),
+        }
+    }
+
     fn folder(&self, path: &str) -> io::Result<Option<Vec<Entry>>> {
         let Some(folder) = self.find_folder(path.as_bytes()) else {
             return Ok(None);
@@ -132,6 +145,10 @@ impl<'a> Files for MemFiles<'a> {
             return Err(io::Error::from(io::ErrorKind::PermissionDenied));
         };
         Ok(Some(copied(self.alloc, entries)?))
+    }
+
+    fn identity(&self, _path: &[u8]) -> Result<Option<Identity>, AllocError> {
+        Ok(None)
     }
 
     fn has_libraries(&self) {}

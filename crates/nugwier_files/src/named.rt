@@ -1,8 +1,7 @@
 //! Libraries that are opened for their names alone.
-ghost use Rattle.std.specs.Prelude.{◌≡◌, IfOk, IfSome, Some};
+ghost use Rattle.std.specs.Prelude.{◌≡◌, IfOk, IfSome};
 ghost use Rattle.std.specs.Option.{option_map};
-ghost use Rattle.elf_linking.specs.Tree.{Found, found_view, opened_names};
-ghost use Rattle.nugwier_files.specs.Folder.{contents_known};
+ghost use Rattle.elf_linking.specs.Tree.{found_view, opened_names};
 
 use crate::files::Files;
 use crate::opening::Opening;
@@ -19,21 +18,36 @@ pub struct NamedLibraries<'a, F> {
 }
 
 impl<'a, F: Files> Opener for NamedLibraries<'a, F> {
-    ghost use Rattle.elf_linking.specs.Tree.{opened_names};
-    ghost use Rattle.nugwier_files.specs.Folder.{contents_known};
+    ghost use Rattle.std.specs.Option.{option_map};
+    ghost use Rattle.nugwier_files.specs.Folder.{opened_in};
 
-    ghost opened = { λ s. option_map opened_names (contents_known (F.known s.files.now)) };
+    ghost opened = { λ s. option_map opened_in (F.known s.files.now) };
 
     fn open_at(&self, alloc: Global, path: Vec<u8>) -> Result<Option<LoadedFile>, AllocError> {
-        let source = match self.files.open_library(&path) {
-            Opening::Parts(source) => source,
-            Opening::Whole => return open_whole(alloc, self.files, path),
-            Opening::Missing => return Ok(None),
-        };
-        match LoadedFile::open_names(alloc, &path, source) {
-            Some(file) => Ok(Some(file)),
-            None => open_whole(alloc, self.files, path),
+        match open_named(alloc, self.files, &path)? {
+            Some(file) => Ok(Some(file.with_identity(self.files.identity(&path)?))),
+            None => Ok(None),
         }
+    }
+}
+
+// Opens a library by its names alone.
+fn open_named<F: Files>(
+    alloc: Global,
+    files: &F,
+    path: &[u8],
+) -> Result<Option<LoadedFile>, AllocError>
+    ensures { IfOk result (λ found. IfSome (F.known files.now)
+        (λ files. opened_names files.contents path.now ≡ option_map found_view found)) }
+{
+    let source = match files.open_library(path) {
+        Opening::Parts(source) => source,
+        Opening::Whole => return open_whole(alloc, files, path),
+        Opening::Missing => return Ok(None),
+    };
+    match LoadedFile::open_names(alloc, path, source) {
+        Some(file) => Ok(Some(file)),
+        None => open_whole(alloc, files, path),
     }
 }
 
@@ -41,16 +55,16 @@ impl<'a, F: Files> Opener for NamedLibraries<'a, F> {
 fn open_whole<F: Files>(
     alloc: Global,
     files: &F,
-    path: Vec<u8>,
+    path: &[u8],
 ) -> Result<Option<LoadedFile>, AllocError>
     ensures { IfOk result (λ found. IfSome (F.known files.now)
-        (λ files. opened_names files.contents path.items ≡ option_map found_view found)) }
+        (λ files. opened_names files.contents path.now ≡ option_map found_view found)) }
 {
     files.has_libraries();
-    let Some(bytes) = files.read_library(&path)? else {
+    let Some(bytes) = files.read_library(path)? else {
         return Ok(None);
     };
-    match opened(alloc, path, bytes)? {
+    match opened(alloc, Vec::from_slice(alloc, path)?, bytes)? {
         Some(file) => Ok(Some(file.without_bytes(alloc))),
         None => Ok(None),
     }

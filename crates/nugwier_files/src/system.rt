@@ -6,11 +6,11 @@ use crate::folder::{Entry, EntryKind};
 use crate::opening::Opening;
 use elf::{FileSource, abi};
 use elf_archive::archive::thinness;
-use elf_linking::tree::Libraries;
+use elf_linking::tree::{Identity, Libraries};
 use std::alloc::{AllocError, Global};
 use std::fs::{DirEntry, File, FileType};
 use std::io::Read;
-use std::os::unix::fs::FileTypeExt;
+use std::os::unix::fs::{FileTypeExt, MetadataExt};
 use std::str::from_utf8;
 use std::{fs, io};
 
@@ -67,11 +67,25 @@ impl Files for SystemFiles<'_> {
         }
     }
 
+    fn read_front(&self, path: &[u8], most: usize) -> Result<Option<Vec<u8>>, AllocError> {
+        let Ok(path) = from_utf8(path) else {
+            return Ok(None);
+        };
+        if_read(read_front(self.rt, path, most))
+    }
+
     // What cannot be told of a path is no folder: reading it tells why.
     fn folder(&self, path: &str) -> io::Result<Option<Vec<Entry>>> {
         match fs::metadata(self.rt, path) {
             Ok(found) if found.is_dir() && path != "-" => Ok(Some(entries_in(self.rt, path)?)),
             _ => Ok(None),
+        }
+    }
+
+    fn identity(&self, path: &[u8]) -> Result<Option<Identity>, AllocError> {
+        match from_utf8(path) {
+            Ok(path) => identity_of(self.rt, path),
+            Err(_) => Ok(None),
         }
     }
 
@@ -86,13 +100,18 @@ impl Libraries for SystemFiles<'_> {
         let Ok(path) = from_utf8(path) else {
             return Ok(None);
         };
-        match read_regular(self.rt, path) {
-            Ok(found) => Ok(found),
-            Err(error) => match error.kind() {
-                io::ErrorKind::OutOfMemory => Err(AllocError),
-                _ => Ok(None),
-            },
-        }
+        if_read(read_regular(self.rt, path))
+    }
+}
+
+// What cannot be read counts as none.
+fn if_read(found: io::Result<Option<Vec<u8>>>) -> Result<Option<Vec<u8>>, AllocError> {
+    match found {
+        Ok(found) => Ok(found),
+        Err(error) => match error.kind() {
+            io::ErrorKind::OutOfMemory => Err(AllocError),
+            _ => Ok(None),
+        },
     }
 }
 
@@ -148,6 +167,30 @@ fn read_regular(rt: &HostRuntime, path: &str) -> io::Result<Option<Vec<u8>>> {
         Some(file) => Ok(Some(read_to_length(rt, file)?)),
         None => Ok(None),
     }
+}
+
+// Which file is at a path. A file that is gone is none.
+fn identity_of(rt: &HostRuntime, path: &str) -> Result<Option<Identity>, AllocError> {
+    match fs::metadata(rt, path) {
+        Ok(found) => Ok(Some(Identity {
+            device: found.dev(),
+            inode: found.ino(),
+        })),
+        Err(error) => match error.kind() {
+            io::ErrorKind::OutOfMemory => Err(AllocError),
+            _ => Ok(None),
+        },
+    }
+}
+
+// Reads the first bytes of a file, whatever length the system reports.
+fn read_front(rt: &HostRuntime, path: &str, most: usize) -> io::Result<Option<Vec<u8>>> {
+    let Some(file) = open_regular(rt, path)? else {
+        return Ok(None);
+    };
+    let mut data = Vec::new(rt.alloc());
+    file.take(most as u64).read_to_end(&mut data)?;
+    Ok(Some(data))
 }
 
 // Reads a pipe until its writer closes it. Of one that begins neither as an ELF file nor as an archive only the

@@ -1,5 +1,5 @@
 -- What is said of the dynamic entries of a file, and of the libraries and search paths that they name.
-use Rattle.std.specs.Prelude.{ℕ, List, [], ◌∷◌, ◌++◌, Option, Some, None, Result, Ok, Err}
+use Rattle.std.specs.Prelude.{ℕ, List, [], ◌∷◌, ◌++◌, length, Option, Some, None, Result, Ok, Err}
 use Rattle.std.specs.Option.{option_map}
 use Rattle.std.specs.Result.{result_ok}
 use Rattle.elf_records.specs.Number.{ok_map}
@@ -12,6 +12,7 @@ use Rattle.elf_dynamic.specs.dynamic_view.Entries.{entries_in}
 use Rattle.elf_linking.specs.Needed.{strings_by}
 use Rattle.elf_linking.specs.declared.needed.NamesError.{NamesError}
 use Rattle.elf_linking.specs.declared.needed.NamesError.TheVariants as error
+use Rattle.nugwier_listing.specs.Headings.{count_members}
 use Rattle.nugwier_listing.specs.Read.{answer_said}
 use Rattle.nugwier_report.specs.Dynamic.{entry_said, needed_said}
 use Rattle.nugwier_report.specs.Said.{Said, numbered, states, whole, wrong}
@@ -52,7 +53,7 @@ strings_missed (Err e) = wrong (whole DynamicStrings) (names_fault e) ∷ []
 abbrev pub each_said : Entries → List Said
 each_said (machine, entries, strings) =
     strings_missed strings
-    ++ states EntriesHeading [] ∷ []
+    ++ states EntriesHeading (count_members (length entries)) ∷ []
     ++ numbered (entry_said machine (result_ok strings)) 0 entries
 
 -- of the entries that name a library or a search path, if there are strings

@@ -50,4 +50,4 @@ abbrev pub groups_said : Named → ObjectFile → List Said
 groups_said named file = flat_map (section_group_said named file) (sections_of file (SHT_GROUP ∷ []))
 
 abbrev pub said_of_groups : ObjectFile → List Said
-said_of_groups file = groups_said (record { sections = file.sections; names = known_names file }) file
+said_of_groups file = groups_said (record { class = file.class; sections = file.sections; names = known_names file }) file

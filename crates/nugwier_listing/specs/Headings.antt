@@ -11,6 +11,10 @@ use Rattle.nugwier_report.specs.Sections.{name_read}
 abbrev pub known_names : ObjectFile → Option (List ℕ)
 known_names file = if_read (name_table file)
 
+-- the strings that have them, or none if they cannot be read
+abbrev pub name_bytes : ObjectFile → List ℕ
+name_bytes file = unwrap_or (known_names file) []
+
 -- the name of a section, or no name if it cannot be read
 abbrev pub name_shown : Option (List ℕ) → SectionHeader → List ℕ
 name_shown names s = unwrap_or (name_read names s) []
@@ -18,3 +22,7 @@ name_shown names s = unwrap_or (name_read names s) []
 -- of section k with this name
 abbrev pub heading_members : ℕ → List ℕ → Members
 heading_members k name = (codes "section", number k) ∷ (codes "name", text (Some name)) ∷ []
+
+-- the number of rows
+abbrev pub count_members : ℕ → Members
+count_members count = (codes "count", number count) ∷ []

@@ -4,9 +4,11 @@ use Rattle.std.specs.List.{flat_map}
 use Rattle.elf.specs.ObjectFile.{ObjectFile}
 use Rattle.elf_records.specs.declared.file.FileHeader.{FileHeader}
 use Rattle.nugwier_listing.specs.Addresses.{AreAddressesSaid}
+use Rattle.nugwier_listing.specs.Attributes.{said_of_attributes}
 use Rattle.nugwier_listing.specs.Chains.{said_of_chains}
 use Rattle.nugwier_listing.specs.Check.{IsCheckSaid}
 use Rattle.nugwier_listing.specs.Contents.{said_of_contents}
+use Rattle.nugwier_listing.specs.DebugLinks.{said_of_debug_links}
 use Rattle.nugwier_listing.specs.Dynamic.{said_of_entries, said_of_needed}
 use Rattle.nugwier_listing.specs.Groups.{said_of_groups}
 use Rattle.nugwier_report.specs.Header.{header_said}
@@ -41,6 +43,8 @@ is_listed parts part.Relocations = parts.relocations
 is_listed parts part.Notes = parts.notes
 is_listed parts part.Versions = parts.versions
 is_listed parts part.Chains = parts.chains
+is_listed parts part.Attributes = parts.attributes
+is_listed parts part.DebugLinks = parts.debug_links
 
 module _ {E : Type 0} (little : E → Bool) where
   abbrev pub said_of_part : FileHeader E → ObjectFile → ListedPart → List Said
@@ -56,6 +60,8 @@ module _ {E : Type 0} (little : E → Bool) where
   said_of_part header file part.Notes = said_of_notes header.e_machine file
   said_of_part header file part.Versions = said_of_version_lists file
   said_of_part header file part.Chains = said_of_chains file
+  said_of_part header file part.Attributes = said_of_attributes header.e_machine file
+  said_of_part header file part.DebugLinks = said_of_debug_links file
 
   abbrev pub said_if_listed : Parts → FileHeader E → ObjectFile → ListedPart → List Said
   said_if_listed parts header file p = if is_listed parts p then said_of_part header file p else []
@@ -65,7 +71,7 @@ module _ {E : Type 0} (little : E → Bool) where
   said_of_list task header file =
       flat_map (said_if_listed task.parts header file) (part.Header ∷ part.Sections ∷ part.Groups ∷ part.Segments
       ∷ part.Symbols ∷ part.DynamicSymbols ∷ part.Dynamic ∷ part.Relocations ∷ part.Notes ∷ part.Versions
-      ∷ part.Chains ∷ [])
+      ∷ part.Chains ∷ part.Attributes ∷ part.DebugLinks ∷ [])
       ++ said_of_contents file task.contents
 
   module _ (of_byte : ℕ → Option E) where

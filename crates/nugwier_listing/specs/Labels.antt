@@ -11,7 +11,7 @@ use Rattle.nugwier_words.specs.declared.words.Parts.{Parts}
 abbrev pub has_sections : Parts → Bool
 has_sections parts =
     parts.sections || parts.groups || parts.symbols || parts.dynamic_symbols || parts.dynamic || parts.relocations
-    || parts.notes || parts.versions || parts.chains
+    || parts.notes || parts.versions || parts.chains || parts.attributes || parts.debug_links
 
 -- whether something of a section can be wrong, by the command
 abbrev pub tells_sections : Command → Task → Bool

@@ -29,6 +29,10 @@ pub mod Relocations
 pub mod Groups
 -- the chains of hash sections
 pub mod Chains
+-- the build attributes
+pub mod Attributes
+-- the links to files with debug information
+pub mod DebugLinks
 -- what is said of a file that is checked
 pub mod Check
 -- the content of sections

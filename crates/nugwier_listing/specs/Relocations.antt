@@ -202,7 +202,7 @@ abbrev pub surroundings_of : Machine → ObjectFile → Surroundings
 surroundings_of machine file = record {
   machine = machine;
   versions = if_read (linked_versions file);
-  named = record { sections = file.sections; names = known_names file };
+  named = record { class = file.class; sections = file.sections; names = known_names file };
 }
 
 -- that the versions of symbols cannot be read, then the relocations

@@ -1,9 +1,10 @@
 -- What is said of the sections of a file.
-use Rattle.std.specs.Prelude.{ℕ, List, [], ◌∷◌, ◌++◌, Option, Result, if◌then◌else◌}
+use Rattle.std.specs.Prelude.{ℕ, List, [], ◌∷◌, ◌++◌, length, Option, Result, if◌then◌else◌}
 use Rattle.elf_records.specs.declared.parse.ParseError.{ParseError}
 use Rattle.elf_records.specs.declared.section.SectionHeader.{SectionHeader}
 use Rattle.elf.specs.Names.{name_table}
 use Rattle.elf.specs.ObjectFile.{ObjectFile}
+use Rattle.nugwier_listing.specs.Headings.{count_members}
 use Rattle.nugwier_listing.specs.Read.{if_read}
 use Rattle.nugwier_report.specs.Said.{Said, numbered, states, unread, whole}
 use Rattle.nugwier_report.specs.Sections.{section_said}
@@ -14,7 +15,8 @@ use Rattle.nugwier_report.specs.declared.problem.Part.TheVariants.{SectionNames}
 abbrev pub sections_said : ℕ → List SectionHeader → Result (Option (List ℕ)) ParseError → List Said
 sections_said machine sections names =
     unread (whole SectionNames) names
-    ++ states kind.SectionsHeading [] ∷ numbered (section_said machine (if_read names)) 0 sections
+    ++ states kind.SectionsHeading (count_members (length sections))
+    ∷ numbered (section_said machine (if_read names)) 0 sections
 
 -- of a file for this machine; nothing of one that declares none
 abbrev pub said_of_sections : ℕ → ObjectFile → List Said

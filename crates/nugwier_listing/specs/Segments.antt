@@ -1,5 +1,5 @@
 -- What is said of the segments of a file.
-use Rattle.std.specs.Prelude.{ℕ, ◌==◌, if◌then◌else◌, List, [], ◌∷◌, ◌++◌, Result}
+use Rattle.std.specs.Prelude.{ℕ, ◌==◌, if◌then◌else◌, List, [], ◌∷◌, ◌++◌, length, Result}
 use Rattle.elf.specs.Answers.{segment_data}
 use Rattle.elf.specs.ObjectFile.{ObjectFile}
 use Rattle.elf_abi.specs.declared.abi.TheConstants as abi
@@ -7,7 +7,7 @@ use Rattle.elf_records.specs.Record.{◌>>=◌}
 use Rattle.elf_records.specs.StringTable.{string_at}
 use Rattle.elf_records.specs.declared.parse.ParseError.{ParseError}
 use Rattle.elf_records.specs.declared.segment.ProgramHeader.{ProgramHeader}
-use Rattle.nugwier_listing.specs.Headings.{known_names}
+use Rattle.nugwier_listing.specs.Headings.{count_members, known_names}
 use Rattle.nugwier_listing.specs.Read.{read_said}
 use Rattle.nugwier_report.specs.Said.{Said, numbered, states}
 use Rattle.nugwier_report.specs.SegmentSections.{segments_sections_said}
@@ -18,7 +18,8 @@ use Rattle.nugwier_report.specs.declared.problem.Part.TheVariants.{Segment}
 -- nothing if there are none, else a heading and each
 abbrev pub segments_said : ℕ → List ProgramHeader → List Said
 segments_said machine [] = []
-segments_said machine (p ∷ ps) = states kind.SegmentsHeading [] ∷ numbered (segment_said machine) 0 (p ∷ ps)
+segments_said machine (p ∷ ps) =
+    states kind.SegmentsHeading (count_members (length (p ∷ ps))) ∷ numbered (segment_said machine) 0 (p ∷ ps)
 
 -- the path of a program in the bytes of a segment, up to a 0 byte (gABI, chapter "Dynamic Linking", "Program Interpreter")
 abbrev pub path_in : Result (List ℕ) ParseError → Result (List ℕ) ParseError

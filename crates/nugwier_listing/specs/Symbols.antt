@@ -1,5 +1,5 @@
 -- What is said of the symbols of a file.
-use Rattle.std.specs.Prelude.{ℕ, ◌+◌, ◌≡◌, ◌==◌, if◌then◌else◌, Bool, true, false, List, [], ◌∷◌, ◌++◌, Option, Some}
+use Rattle.std.specs.Prelude.{ℕ, ◌+◌, ◌≡◌, ◌==◌, if◌then◌else◌, Bool, true, false, List, [], ◌∷◌, ◌++◌, length, Option, Some}
 use Rattle.std.specs.Prelude.{None, Result, Ok, Err}
 use Rattle.std.specs.List.{enumerate_from}
 use Rattle.std.specs.List.Sorted.{IsNonDecreasingBy, IsPermutation, IsStableByKey}
@@ -11,6 +11,7 @@ use Rattle.elf_parts.specs.gnu_symver.Table.{Versions}
 use Rattle.elf_records.specs.Symbol.{symbol_reads}
 use Rattle.elf_records.specs.Table.{Table, table_items}
 use Rattle.elf_records.specs.declared.symbol.Symbol.{Symbol}
+use Rattle.nugwier_listing.specs.Headings.{count_members, name_bytes}
 use Rattle.nugwier_listing.specs.Linked.{linked_symbols, linked_versions}
 use Rattle.nugwier_listing.specs.Read.{fault_said, found_said, if_read, missing}
 use Rattle.nugwier_report.specs.Said.{Said, numbered, states, whole, wrong}
@@ -49,10 +50,11 @@ IsOrdered other all rows = IsByKey (order_key other) all rows
 
 -- ---- the symbols of a table
 
-abbrev pub heading_said : Manner → Part → List Said
-heading_said all_fields Symbols = states kind.SymbolsHeading [] ∷ []
-heading_said all_fields _ = states kind.DynamicSymbolsHeading [] ∷ []
-heading_said _ part = []
+-- above this number of rows
+abbrev pub heading_said : Manner → Part → ℕ → List Said
+heading_said all_fields Symbols count = states kind.SymbolsHeading (count_members count) ∷ []
+heading_said all_fields _ count = states kind.DynamicSymbolsHeading (count_members count) ∷ []
+heading_said _ part count = []
 
 -- of symbols of this part, with their strings and versions
 abbrev pub rows_said : Manner → Part → Option Versions → List (ℕ × Symbol) → List ℕ → List Said
@@ -62,7 +64,7 @@ rows_said manner part versions rows strings =
 -- that the versions cannot be read, then the symbols
 abbrev pub versioned_said : Manner → Part → Result (Option Versions) Fault → List (ℕ × Symbol) → List ℕ → List Said
 versioned_said manner part versions rows strings =
-    fault_said (whole VersionPart) versions ++ heading_said manner part
+    fault_said (whole VersionPart) versions ++ heading_said manner part (length rows)
     ++ rows_said manner part (if_read versions) rows strings
 
 -- if there are none: a listing of all fields needs none
@@ -110,7 +112,8 @@ AreLettersSaid false manner file said = AreAllSaid manner file (err_map Read (sy
 
 -- by the options
 abbrev pub AreSymbolsSaid : SymbolOptions → ObjectFile → List Said → Type 0
-AreSymbolsSaid options file said = AreLettersSaid options.is_dynamic (by_letter file.class file.sections options) file said
+AreSymbolsSaid options file said =
+    AreLettersSaid options.is_dynamic (by_letter file.sections (name_bytes file) options) file said
 
 -- what the file defines for others, in the order of the table
 abbrev pub AreExportsSaid : SymbolOptions → ObjectFile → List Said → Type 0

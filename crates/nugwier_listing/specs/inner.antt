@@ -16,6 +16,10 @@ pub mod TypedSections
 pub mod Groups
 -- the chains of hash sections that were taken
 pub mod Chains
+-- the build attributes that were taken
+pub mod Attributes
+-- the links that were taken
+pub mod DebugLinks
 -- the content that was taken
 pub mod Contents
 pub mod Job

@@ -1,5 +1,5 @@
 //! Whether a file is sound, and its faults. It is read whole.
-ghost use Rattle.std.specs.Prelude.{◌≡◌, ◌<◌, ◌^◌, List, Result, IfOk, IfSome, OnOk, length};
+ghost use Rattle.std.specs.Prelude.{◌≡◌, ◌<◌, ◌^◌, List, Result, IfOk, IfSome, OnOk, false, length};
 ghost use Rattle.elf.specs.ElfBytes.{view};
 ghost use Rattle.elf.specs.Loaded.{streamed_file};
 ghost use Rattle.elf.specs.ObjectFile.{object_file};
@@ -45,9 +45,11 @@ pub(crate) fn take_check<E: EndianParse, R: ListedFile<E>>(
     }
 }
 
-/// States that the faults of a stream over known content are all faults of the file that the content holds.
+/// States that the faults of a stream over known content are all faults of the file that the content holds, if it was
+/// opened with its section headers.
 pub(crate) fn content_is_checked<E: EndianParse, S: StreamSource>(stream: &ElfStream<E, S, Global>)
-    ensures { IfSome stream.now.content (λ bytes. (found : Result (List FileFault) ParseError) →
+    ensures { stream.now.by_segments ≡ false → IfSome stream.now.content (λ bytes.
+        (found : Result (List FileFault) ParseError) →
         AreFaultsOf E.little E.of_byte (file_of (streamed_file E.little stream.now) (stream_range stream.now)) found →
         AreContentFaults E.little E.of_byte bytes found) }
 {

@@ -258,8 +258,12 @@ pub(crate) fn first_named(
         .find(|one| is_named(names, &one.1, name))
 }
 
-// Whether a section has a name, if there are names.
-fn is_named(names: &Option<TerminatedStrings<'_>>, section: &SectionHeader, name: &str) -> bool
+/// Whether a section has a name, if there are names.
+pub(crate) fn is_named(
+    names: &Option<TerminatedStrings<'_>>,
+    section: &SectionHeader,
+    name: &str,
+) -> bool
     ensures { result ≡ is_named names.now name.now section.now }
 {
     match names {

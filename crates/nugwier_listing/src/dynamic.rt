@@ -8,6 +8,7 @@ ghost use Rattle.nugwier_listing.specs.Whole.{file_of};
 ghost use Rattle.nugwier_listing.specs.inner.Dynamic.{entries_said, entries_view, needed_said};
 ghost use Rattle.nugwier_report.specs.Said.{saying};
 
+use crate::headings::count_members;
 use crate::listed::ListedFile;
 use crate::taking;
 use crate::taking::NotTaken;
@@ -99,7 +100,7 @@ fn say_each<W: Write, V: Write>(
         strings,
     } = part;
     let strings = found_strings(strings, report)?;
-    report.state(Kind::EntriesHeading, &[])?;
+    report.state(Kind::EntriesHeading, &count_members(entries.len()))?;
     say_slice(entries.as_slice(), &EntryRow { machine, strings }, report)
 }
 

@@ -1,6 +1,6 @@
 //! The names of sections in headings, for people.
 ghost use Rattle.std.specs.Prelude.{◌≡◌, IfOk};
-ghost use Rattle.nugwier_listing.specs.Headings.{heading_members, known_names, name_shown};
+ghost use Rattle.nugwier_listing.specs.Headings.{count_members, heading_members, known_names, name_shown};
 ghost use Rattle.nugwier_listing.specs.Whole.{file_of};
 ghost use Rattle.nugwier_report.specs.Noted.{members_said};
 
@@ -48,4 +48,11 @@ pub(crate) fn heading_members(number: u64, name: &[u8]) -> [Member<'_>; 2]
         ("section", Value::Number(number)),
         ("name", Value::Text(Some(name))),
     ]
+}
+
+/// Returns the member of a heading: the number of rows under it.
+pub(crate) fn count_members(count: usize) -> [Member<'static>; 1]
+    ensures { members_said result ≡ count_members count }
+{
+    [("count", Value::Number(count as u64))]
 }

@@ -18,12 +18,14 @@ pub fn take_labels<'f, E: EndianParse, R: ListedFile<E>>(
     job: &Job<'_>,
     file: &'f R,
 ) -> Result<Labels<'f>, NotTaken>
+    ensures class { IfOk result (λ labels. labels.class ≡ (R.file file.now).class) }
     ensures sections { IfOk result (λ labels. labels.sections.now ≡ (R.file file.now).sections) }
     ensures names { IfOk result (λ labels. labels.names
         ≡ names_told (task_of job.now) (file_of (R.file file.now) (R.bytes file.now))) }
 {
     let names = names_told(job, file)?;
     Ok(Labels {
+        class: file.class(),
         sections: file.section_list(),
         names,
     })
@@ -58,5 +60,6 @@ fn has_sections(parts: &Parts) -> bool
 {
     let listed = parts.sections || parts.groups || parts.symbols || parts.dynamic_symbols;
     let others = parts.notes || parts.versions || parts.chains;
-    listed || parts.dynamic || parts.relocations || others
+    let last = parts.attributes || parts.debug_links;
+    listed || parts.dynamic || parts.relocations || others || last
 }

@@ -3,9 +3,11 @@
 #![tactic(auto)]
 
 mod addresses;
+mod attributes;
 mod chains;
 mod check;
 pub mod contents;
+mod debug_links;
 mod dynamic;
 mod groups;
 mod hardening;

@@ -7,8 +7,10 @@ ghost use Rattle.nugwier_listing.specs.inner.Job.{list_said, part_said};
 ghost use Rattle.nugwier_report.specs.Said.{saying};
 ghost use Rattle.nugwier_words.specs.Words.{task_of};
 
+use crate::attributes::{AttributesPart, take_attributes};
 use crate::chains::{ChainsPart, take_chains};
 use crate::contents::{ContentPart, take_contents};
+use crate::debug_links::{LinkPart, take_debug_links};
 use crate::dynamic::{FoundEntries, say_entries, take_dynamic};
 use crate::groups::{GroupTables, say_groups, take_groups};
 use crate::hardening::take_kind;
@@ -45,10 +47,12 @@ enum ListedPart {
     Notes,
     Versions,
     Chains,
+    Attributes,
+    DebugLinks,
 }
 
 // All of them, in the order of a listing.
-static PARTS: [ListedPart; 11] = [
+static PARTS: [ListedPart; 13] = [
     ListedPart::Header,
     ListedPart::Sections,
     ListedPart::Groups,
@@ -60,6 +64,8 @@ static PARTS: [ListedPart; 11] = [
     ListedPart::Notes,
     ListedPart::Versions,
     ListedPart::Chains,
+    ListedPart::Attributes,
+    ListedPart::DebugLinks,
 ];
 
 // A part that was taken.
@@ -75,6 +81,8 @@ enum PartTables<'f, E: EndianParse> {
     Notes(Vec<NotePart<'f>>),
     Versions(Vec<VersionPart<'f, E>>),
     Chains(Vec<ChainsPart<'f>>),
+    Attributes(Vec<AttributesPart<'f>>),
+    DebugLinks(Vec<LinkPart<'f>>),
 }
 
 /// All that is listed: the parts that are asked for, and the contents of sections.
@@ -153,6 +161,8 @@ fn is_listed(parts: &Parts, part: ListedPart) -> bool
         ListedPart::Notes => parts.notes,
         ListedPart::Versions => parts.versions,
         ListedPart::Chains => parts.chains,
+        ListedPart::Attributes => parts.attributes,
+        ListedPart::DebugLinks => parts.debug_links,
     }
 }
 
@@ -180,6 +190,8 @@ fn take_part<'f, E: EndianParse, R: ListedFile<E>>(
         ListedPart::Notes => Ok(PartTables::Notes(take_notes(alloc, file)?)),
         ListedPart::Versions => Ok(PartTables::Versions(take_version_lists(alloc, file)?)),
         ListedPart::Chains => Ok(PartTables::Chains(take_chains(alloc, file)?)),
+        ListedPart::Attributes => Ok(PartTables::Attributes(take_attributes(alloc, file)?)),
+        ListedPart::DebugLinks => Ok(PartTables::DebugLinks(take_debug_links(alloc, file)?)),
     }
 }
 
@@ -229,5 +241,7 @@ fn say_part<E: EndianParse, W: Write, V: Write>(
         PartTables::Notes(parts) => say_each(parts, report),
         PartTables::Versions(parts) => say_each(parts, report),
         PartTables::Chains(parts) => say_each(parts, report),
+        PartTables::Attributes(parts) => say_each(parts, report),
+        PartTables::DebugLinks(parts) => say_each(parts, report),
     }
 }

@@ -151,8 +151,8 @@ fn segment_members(number: u64) -> [Member<'static>; 1]
     [("segment", Value::Number(number))]
 }
 
-// The file, as the descriptors of its notes depend on it.
-fn note_file<E: EndianParse, R: ListedFile<E>>(file: &R) -> NoteFile
+/// Returns the file, as the descriptors of its notes and build attributes depend on it.
+pub(crate) fn note_file<E: EndianParse, R: ListedFile<E>>(file: &R) -> NoteFile
     ensures { result ≡ note_file (R.header file.now).e_machine (file_of (R.file file.now) (R.bytes file.now)) }
 {
     NoteFile {

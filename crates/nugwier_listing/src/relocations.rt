@@ -169,10 +169,11 @@ pub(crate) fn labels_of<'f, E: EndianParse, R: ListedFile<E>>(
     file: &'f R,
 ) -> Result<Labels<'f>, NotTaken>
     ensures { let whole = file_of (R.file file.now) (R.bytes file.now) in IfOk result (λ labels. named_by labels
-        ≡ record { sections = whole.sections; names = known_names whole }) }
+        ≡ record { class = whole.class; sections = whole.sections; names = known_names whole }) }
 {
     let names = known_names(file)?;
     Ok(Labels {
+        class: file.class(),
         sections: file.section_list(),
         names,
     })

@@ -7,6 +7,7 @@ ghost use Rattle.nugwier_listing.specs.inner.Sections.{taken_sections_said};
 ghost use Rattle.nugwier_report.specs.Said.{saying, unread, whole};
 ghost use Rattle.nugwier_report.specs.declared.problem.Part.TheVariants.{SectionNames as IsSectionNames};
 
+use crate::headings::count_members;
 use crate::listed::ListedFile;
 use crate::taking::{self, NotTaken};
 use elf::ParseError;
@@ -74,7 +75,7 @@ fn say_listed<W: Write, V: Write>(
         names,
     } = tables;
     let names = say_names(names, report)?;
-    report.state(Kind::SectionsHeading, &[])?;
+    report.state(Kind::SectionsHeading, &count_members(sections.len()))?;
     say_slice(sections, &SectionRow { machine, names }, report)
 }
 

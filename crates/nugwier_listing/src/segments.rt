@@ -10,7 +10,7 @@ ghost use Rattle.nugwier_listing.specs.inner.Segments.{part_said, tables_said};
 ghost use Rattle.nugwier_report.specs.Said.{numbered, saying};
 ghost use Rattle.nugwier_report.specs.Segments.{interpreter_said};
 
-use crate::headings::known_names;
+use crate::headings::{count_members, known_names};
 use crate::listed::ListedFile;
 use crate::parts::{TakenPart, say_each};
 use crate::taking::{self, NotTaken};
@@ -154,6 +154,6 @@ fn say_headers<W: Write, V: Write>(
     if segments.is_empty() {
         return Ok(());
     }
-    report.state(Kind::SegmentsHeading, &[])?;
+    report.state(Kind::SegmentsHeading, &count_members(segments.len()))?;
     say_slice(segments, &SegmentRow { machine }, report)
 }

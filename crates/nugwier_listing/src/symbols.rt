@@ -1,5 +1,5 @@
 //! The symbols of a file.
-ghost use Rattle.std.specs.Prelude.{◌≡◌, IfOk, OnOk};
+ghost use Rattle.std.specs.Prelude.{◌≡◌, IfOk, OnOk, length};
 ghost use Rattle.std.specs.Option.{option_map};
 ghost use Rattle.elf.specs.Answers.{symbols_view};
 ghost use Rattle.elf_parts.specs.gnu_symver.Table.{versions_view};
@@ -7,7 +7,7 @@ ghost use Rattle.elf_records.specs.Number.{ok_map};
 ghost use Rattle.elf_records.specs.StringTable.{strings_view};
 ghost use Rattle.elf_records.specs.Table.{table_view};
 ghost use Rattle.nugwier_listing.specs.Read.{fault_said, if_read};
-ghost use Rattle.nugwier_listing.specs.Symbols.{AreLinkedSaid, AreSymbolsSaid, AreTableSaid, IsByKey, IsOrdered};
+ghost use Rattle.nugwier_listing.specs.Symbols.{AreAllSaid, AreLinkedSaid, AreSymbolsSaid, AreTableSaid, IsByKey, IsOrdered};
 ghost use Rattle.nugwier_listing.specs.Symbols.{heading_said, none_said, order_key, rows_of, rows_said, said_of_dynamic_symbols};
 ghost use Rattle.nugwier_listing.specs.Symbols.{said_of_symbols};
 ghost use Rattle.nugwier_listing.specs.Whole.{file_of};
@@ -16,12 +16,14 @@ ghost use Rattle.nugwier_report.specs.Said.{saying, whole};
 ghost use Rattle.nugwier_report.specs.Symbols.{form_view};
 ghost use Rattle.nugwier_report.specs.declared.problem.Part.TheVariants.{Versions as VersionPart};
 
+use crate::headings::count_members;
 use crate::linked::{FoundVersions, linked_symbols, linked_versions};
 use crate::listed::ListedFile;
 use crate::taking;
 use crate::taking::{FoundSymbols, NotTaken};
 use elf::endian::EndianParse;
 use elf::gnu_symver::{SymbolVersionTable, SymbolVersions};
+use elf::laws::tables::iter_gives_len_records;
 use elf::string_table::{StringTable, TerminatedStrings};
 use elf::symbol::{Symbol, SymbolTable};
 use elf_linking::indexed;
@@ -93,14 +95,28 @@ pub(crate) fn take_letters<'f, E: EndianParse, R: ListedFile<E>>(
         (table_said tables)) }
 {
     let form = Form::Letter {
-        class: file.class(),
         sections: file.section_list(),
+        names: taking::name_bytes(file)?,
         options,
     };
     if options.is_dynamic {
         return take_linked(alloc, form, file);
     }
-    match taking::symbols(file)? {
+    let found = taking::symbols(file)?;
+    take_found(alloc, form, found, file)
+}
+
+// Takes the symbols that were found of the section of type `SHT_SYMTAB`, or if there is none those for dynamic linking.
+fn take_found<'f, E: EndianParse, R: ListedFile<E>>(
+    alloc: Global,
+    form: Form<'f>,
+    found: FoundSymbols<'f, E>,
+    file: &'f R,
+) -> Result<SymbolTables<'f, E>, NotTaken>
+    ensures { IfOk result (λ tables. AreAllSaid (form_view form.entry) (file_of (R.file file.now) (R.bytes file.now))
+        (ok_map (option_map symbols_view) found.entry) (table_said tables)) }
+{
+    match found {
         Ok(None) => take_linked(alloc, form, file),
         found => take_table(alloc, Part::Symbols, form, found, Ok(None)),
     }
@@ -238,7 +254,7 @@ fn say_versioned<'f, E: EndianParse, W: Write, V: Write>(
         versions,
     } = symbols;
     let versions = known_versions(versions, report)?;
-    say_heading(part, form, report)?;
+    say_heading(part, form, count_of(&rows), report)?;
     let versions = indexed(alloc, versions.as_ref())?;
     say_rows(part, form, rows, strings, versions, report)
 }
@@ -262,17 +278,33 @@ pub(crate) fn known_versions<'f, E: EndianParse, W: Write, V: Write>(
     }
 }
 
+// The number of rows.
+fn count_of<E: EndianParse>(rows: &Rows<'_, E>) -> usize
+    ensures { result ≡ length (rows_view rows.now) }
+{
+    match rows {
+        Rows::InTable(table) => {
+            iter_gives_len_records(table);
+            table.len()
+        }
+        Rows::Ordered(rows) => rows.len(),
+    }
+}
+
 // The heading above all fields of symbols.
 fn say_heading<W: Write, V: Write>(
     part: Part,
     form: Form<'_>,
+    count: usize,
     report: &mut Report<'_, W, V>,
 ) -> Result<(), Stop>
-    ensures { OnOk result (report.new ≡ saying report.old (heading_said (form_view form.entry) part)) }
+    ensures { OnOk result (report.new ≡ saying report.old (heading_said (form_view form.entry) part count)) }
 {
     match (form, part) {
-        (Form::Fields, Part::Symbols) => report.state(Kind::SymbolsHeading, &[]),
-        (Form::Fields, _) => report.state(Kind::DynamicSymbolsHeading, &[]),
+        (Form::Fields, Part::Symbols) => {
+            report.state(Kind::SymbolsHeading, &count_members(count))
+        }
+        (Form::Fields, _) => report.state(Kind::DynamicSymbolsHeading, &count_members(count)),
         (Form::Letter { .. } | Form::Export { .. }, _) => Ok(()),
     }
 }

@@ -22,6 +22,7 @@ ghost use Rattle.elf_records.specs.Table.{table_view};
 ghost use Rattle.elf_tools.specs.BuildId.{build_id};
 ghost use Rattle.elf_linking.specs.Needed.{missing_of, strings_by};
 ghost use Rattle.nugwier_report.specs.declared.problem.Fault.TheVariants.{Read as IsRead};
+ghost use Rattle.nugwier_listing.specs.Headings.{name_bytes};
 ghost use Rattle.nugwier_listing.specs.Whole.{stream_range, file_of};
 ghost use Rattle.nugwier_listing.specs.declared.taking.NotTaken.TheVariants.{Memory as IsMemory};
 
@@ -161,6 +162,18 @@ pub fn names<'f, E: EndianParse, R: ListedFile<E>>(
         Ok(Some(names)) => Ok(Ok(Some(TerminatedStrings::new(&names)))),
         Ok(None) => Ok(Ok(None)),
         Err(error) => Ok(Err(error)),
+    }
+}
+
+/// Takes the strings that have the names of the sections, or none if they cannot be read.
+pub(crate) fn name_bytes<'f, E: EndianParse, R: ListedFile<E>>(
+    file: &'f R,
+) -> Result<&'f [u8], NotTaken>
+    ensures { IfOk result (λ names. names.now ≡ name_bytes (file_of (R.file file.now) (R.bytes file.now))) }
+{
+    match name_strings(file)? {
+        Ok(Some(names)) => Ok(names.bytes()),
+        Ok(None) | Err(_) => Ok(&[]),
     }
 }
 

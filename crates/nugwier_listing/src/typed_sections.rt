@@ -30,6 +30,12 @@ pub const VERSION_TYPES: [u32; 2] = [abi::SHT_GNU_VERDEF, abi::SHT_GNU_VERNEED];
 /// The types of hash sections.
 pub const HASH_TYPES: [u32; 2] = [abi::SHT_HASH, abi::SHT_GNU_HASH];
 
+/// The types of sections that have build attributes in files of any machine.
+pub const ATTRIBUTE_TYPES: [u32; 1] = [abi::SHT_GNU_ATTRIBUTES];
+
+/// The same in files of Arm, AArch64 and RISC-V, whose type has one number.
+pub const MACHINE_ATTRIBUTE_TYPES: [u32; 2] = [abi::SHT_GNU_ATTRIBUTES, abi::SHT_ARM_ATTRIBUTES];
+
 /// A section with its number, and its bytes or why they are not listed.
 #[derive(Drop)]
 pub(crate) struct TypedSection<'f> {

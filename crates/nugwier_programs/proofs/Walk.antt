@@ -125,38 +125,42 @@ firsts_known objects (suc (suc k)) firsts past empty known = absurd (omega (arit
 
 -- ---- the folders that are searched
 
-abbrev pub made_others : List ℕ → List ℕ → List ℕ → (List ℕ → Option (List ℕ)) → List (List ℕ) → List (List ℕ) → Others
-made_others path lib platform cached listed usual =
+abbrev pub made_others : List ℕ → List ℕ → List ℕ → List (List ℕ) → (List ℕ → Option (List ℕ)) → List (List ℕ) → List (List ℕ) → Others
+made_others path lib platform hwcaps cached listed usual =
     record {
       library_path = Some path;
       lib = lib;
       platform = platform;
+      hwcaps = hwcaps;
       cached = cached;
       listed_folders = listed;
       usual_folders = usual;
     }
 
-pub same_others : (a b l m p q : List ℕ) (c d : List ℕ → Option (List ℕ)) (s t u v : List (List ℕ)) → a ≡ b → l ≡ m → p ≡ q → c ≡ d → s ≡ t → u ≡ v
-    → made_others a l p c s u ≡ made_others b m q d t v
-same_others a b l m p q c d s t u v same lib platform cached listed usual =
-    ap (λ (path : List ℕ). made_others path l p c s u) same ∙ ap (λ (k : List ℕ). made_others b k p c s u) lib
-    ∙ ap (λ (k : List ℕ). made_others b m k c s u) platform ∙ ap (λ (k : List ℕ → Option (List ℕ)). made_others b m q k s u) cached
-    ∙ ap (λ (k : List (List ℕ)). made_others b m q d k u) listed ∙ ap (made_others b m q d t) usual
+pub same_others : (a b l m p q : List ℕ) (h i : List (List ℕ)) (c d : List ℕ → Option (List ℕ)) (s t u v : List (List ℕ)) → a ≡ b → l ≡ m → p ≡ q → h ≡ i → c ≡ d → s ≡ t
+    → u ≡ v → made_others a l p h c s u ≡ made_others b m q i d t v
+same_others a b l m p q h i c d s t u v same lib platform hwcaps cached listed usual =
+    ap (λ (path : List ℕ). made_others path l p h c s u) same ∙ ap (λ (k : List ℕ). made_others b k p h c s u) lib
+    ∙ ap (λ (k : List ℕ). made_others b m k h c s u) platform ∙ ap (λ (k : List (List ℕ)). made_others b m q k c s u) hwcaps
+    ∙ ap (λ (k : List ℕ → Option (List ℕ)). made_others b m q i k s u) cached ∙ ap (λ (k : List (List ℕ)). made_others b m q i d k u) listed
+    ∙ ap (made_others b m q i d t) usual
 
 -- the cache that was read is the one of the file
-pub same_cached : (o : Option (Bor LinkerCache)) (flags : LibraryFlags) (kind : Kind) (cache : Option Cache) → flags_view flags ≡ flags_of kind.machine kind.class →
-    option_map (λ (b : Bor LinkerCache). cache_view b.now) o ≡ cache → cached_by o flags ≡ cached_in cache kind
-same_cached None flags kind cache e is = ap (λ (c : Option Cache). cached_in c kind) is
-same_cached (Some b) flags kind cache e is =
-    ap (λ (f : List ℕ). λ (name : List ℕ). cached_path (cache_view b.now) f name) e ∙ ap (λ (c : Option Cache). cached_in c kind) is
+pub same_cached : (o : Option (Bor LinkerCache)) (flags : LibraryFlags) (kind : Kind) (h i : List (List ℕ)) (cache : Option Cache) → flags_view flags ≡ flags_of kind.machine kind.class →
+    h ≡ i → option_map (λ (b : Bor LinkerCache). cache_view b.now) o ≡ cache → cached_by o flags h ≡ cached_in cache kind i
+same_cached None flags kind h i cache e same is = ap (λ (k : List (List ℕ)). cached_by None flags k) same ∙ ap (λ (c : Option Cache). cached_in c kind i) is
+same_cached (Some b) flags kind h i cache e same is =
+    ap (λ (k : List (List ℕ)). cached_by (Some b) flags k) same ∙ ap (λ (f : List ℕ). λ (name : List ℕ). cached_path (cache_view b.now) f i name) e
+    ∙ ap (λ (c : Option Cache). cached_in c kind i) is
 
 pub known_as : {A B : Type 0} (f : A → B) (o : Option A) (P : B → Type 0) → IfSome (option_map f o) P → IfSome o (λ x. P (f x))
 known_as f None P h = tt
 known_as f (Some x) P h = h
 
-pub all_known : {A : Type 0} (P Q R S : A → Type 0) (o : Option A) → IfSome o P → IfSome o Q → IfSome o R → ((x : A) → P x → Q x → R x → S x) → IfSome o S
-all_known P Q R S None p q r f = tt
-all_known P Q R S (Some x) p q r f = f x p q r
+pub all_known : {A : Type 0} (P Q R S T : A → Type 0) (o : Option A) → IfSome o P → IfSome o Q → IfSome o R → IfSome o S → ((x : A) → P x → Q x → R x → S x → T x)
+    → IfSome o T
+all_known P Q R S T None p q r s f = tt
+all_known P Q R S T (Some x) p q r s f = f x p q r s
 
 pub is_some_of : {A B : Type 0} (f : A → B) (o : Option A) → is_some (option_map f o) ≡ is_some o
 is_some_of f None = refl

@@ -5,14 +5,14 @@ use Rattle.std.specs.Prelude.{◌≡◌, ℕ, ◌+◌, ◌==◌, if◌then◌els
 use Rattle.std.specs.Prelude.{map, replicate, Option, Some, None, Result, Ok, Err, IfSome}
 use Rattle.std.specs.List.{enumerate_from, flat_map, zip}
 use Rattle.std.specs.Option.{option_map, option_to_list}
-use Rattle.elf_records.specs.Endian.{any_is_little, any_of_byte}
+use Rattle.elf_records.specs.Endian.{any_is_little}
 use Rattle.elf_records.specs.Symbol.{symbol_reads}
 use Rattle.elf_records.specs.Table.{Table, table_items, table_len}
 use Rattle.elf_records.specs.declared.endian.AnyEndian.{AnyEndian}
 use Rattle.elf_records.specs.declared.parse.ParseError.{ParseError}
 use Rattle.elf_records.specs.declared.symbol.Symbol.{Symbol}
 use Rattle.elf_parts.specs.gnu_symver.Table.{Versions}
-use Rattle.elf_reading.specs.Opening.{FileView, headers_of, opened_file}
+use Rattle.elf_reading.specs.Opening.{FileView, headers_of}
 use Rattle.elf.specs.ObjectFile.{FileOf, Partial}
 use Rattle.elf.specs.StreamFile.{listed_file}
 use Rattle.elf_linking.specs.Binding.{VersionedObject}
@@ -22,7 +22,7 @@ use Rattle.elf_linking.specs.declared.resolve.ObjectFault.{ObjectFault}
 use Rattle.elf_linking.specs.declared.resolve.ObjectFault.TheVariants.{Read as IsRead}
 use Rattle.elf_linking.specs.SymbolBindings.{AreAllBound, is_bound}
 use Rattle.elf_linking.specs.SymbolUses.{no_uses, uses_at}
-use Rattle.elf_linking.specs.Tree.{Entry, Found, in_order}
+use Rattle.elf_linking.specs.Tree.{Entry, Found, in_order, linked_file}
 use Rattle.elf_linking.specs.declared.bindings.kinds.SymbolBinding.{SymbolBinding}
 use Rattle.elf_linking.specs.declared.bindings.uses.SymbolUses.{SymbolUses}
 use Rattle.elf_linking.specs.declared.bindings.uses.UsesError.{UsesError}
@@ -68,9 +68,9 @@ abbrev pub IsOpeningBy : Result (FileView AnyEndian) ParseError → Opening → 
 IsOpeningBy (Ok v) opening = (file : OpenFile) × IsPartOf v file × (opening ≡ Loaded file)
 IsOpeningBy (Err e) opening = (path : List ℕ) × (opening ≡ Refused path e)
 
--- by its content, if there is one
+-- by its content, if there is one: through its segments if its section headers cannot be read
 abbrev pub IsOpeningOf : Option (List ℕ) → Opening → Type 0
-IsOpeningOf (Some bytes) opening = IsOpeningBy (opened_file any_is_little any_of_byte bytes) opening
+IsOpeningOf (Some bytes) opening = IsOpeningBy (linked_file bytes) opening
 IsOpeningOf None opening = (path : List ℕ) × (opening ≡ Gone path)
 
 -- the content of a file, if it is known: these bytes, or if none were kept what is at its path

@@ -12,18 +12,19 @@ use Rattle.elf_records.specs.declared.parse.ParseError.{ParseError}
 use Rattle.elf_linking.specs.Cache.{Cache, cache_of, cached_path, flags_of}
 use Rattle.elf_linking.specs.Search.{Others}
 use Rattle.elf_linking.specs.Needed.{Named}
-use Rattle.elf_linking.specs.Tree.{Entry, Found, IsLoadOrder, entry_view, found_view, loader_at, opened_names}
+use Rattle.elf_linking.specs.Tree.{Entry, Found, IsLoadOrder, entry_view, found_view, loader_at}
 use Rattle.elf_linking.specs.Tree.{without_bytes}
 use Rattle.elf_linking.specs.declared.needed.NamesError.{NamesError}
 use Rattle.elf_linking.specs.declared.tree.Kind.{Kind}
 use Rattle.elf_linking.specs.declared.tree.LoadOrder.{LoadOrder}
 use Rattle.elf_linking.specs.declared.tree.LoadedFile.{LoadedFile}
-use Rattle.nugwier_files.specs.Folder.{KnownFiles}
+use Rattle.nugwier_files.specs.Folder.{KnownFiles, opened_in}
 use Rattle.nugwier_report.specs.Objects.{object_said}
 use Rattle.nugwier_report.specs.Said.{Said, whole, wrong}
 use Rattle.nugwier_report.specs.declared.problem.Fault.TheVariants.{Names, NotFound, Read}
 use Rattle.nugwier_report.specs.declared.problem.Part.TheVariants.{File}
 use Rattle.nugwier_programs.specs.Configured.{AreListed}
+use Rattle.nugwier_programs.specs.Processor.{hwcaps_of, level_for}
 use Rattle.nugwier_programs.specs.Usual.{lib_of, platform_of, usual_folders}
 use Rattle.nugwier_programs.specs.declared.tree.Search.{Search as Given}
 use denote.Ref.{Bor}
@@ -56,9 +57,9 @@ cache_in order None = None
 cache_in order (Some file) = result_ok (cache_of (any_is_little order) file)
 
 -- the path that it has for a name, of a library for programs of this kind
-abbrev pub cached_in : Option Cache → Kind → List ℕ → Option (List ℕ)
-cached_in None kind name = None
-cached_in (Some cache) kind name = cached_path cache (flags_of kind.machine kind.class) name
+abbrev pub cached_in : Option Cache → Kind → List (List ℕ) → List ℕ → Option (List ℕ)
+cached_in None kind hwcaps name = None
+cached_in (Some cache) kind hwcaps name = cached_path cache (flags_of kind.machine kind.class) hwcaps name
 
 -- the file of the cache, if it counts
 abbrev pub cache_file : Bool → (List ℕ → Option (List ℕ)) → Option (List ℕ)
@@ -70,14 +71,17 @@ cache_for contents search kind = cache_in kind.order (cache_file search.has_cach
 
 -- these, the cache, the folders that count in its place, and what belongs to the program's kind
 abbrev pub others_of : (List ℕ → Option (List ℕ)) → List (List ℕ) → Search → Kind → Others
-others_of contents listed search kind = record {
-  library_path = Some (library_path search.folders);
-  lib = lib_of kind;
-  platform = platform_of kind;
-  cached = cached_in (cache_for contents search kind) kind;
-  listed_folders = listed;
-  usual_folders = usual_folders kind;
-}
+others_of contents listed search kind =
+    let hwcaps = hwcaps_of (level_for contents kind) in
+    record {
+      library_path = Some (library_path search.folders);
+      lib = lib_of kind;
+      platform = platform_of kind;
+      hwcaps = hwcaps;
+      cached = cached_in (cache_for contents search kind) kind hwcaps;
+      listed_folders = listed;
+      usual_folders = usual_folders kind;
+    }
 
 -- what is known of the files, if something is
 abbrev pub Known : Type 0
@@ -94,7 +98,7 @@ order_view order = (map entry_view order.objects.items, order.scope.items)
 abbrev pub AreNamedIn : KnownFiles → Search → Found → Order → Type 0
 AreNamedIn files search program order =
     (listed : List (List ℕ)) × AreListed files (is_some (cache_for files.contents search program.kind)) listed
-    × IsLoadOrder (opened_names files.contents) (others_of files.contents listed search program.kind) program order.0 order.1
+    × IsLoadOrder (opened_in files) (others_of files.contents listed search program.kind) program order.0 order.1
 
 abbrev pub AreNamedObjects : Known → Search → Found → Order → Type 0
 AreNamedObjects known search program order = IfSome known (λ files. AreNamedIn files search program order)

@@ -5,5 +5,6 @@ pub mod bindings;
 mod configured;
 mod paths;
 pub mod patterns;
+pub mod processor;
 pub mod tree;
 mod usual;

@@ -16,6 +16,7 @@ ghost use Rattle.nugwier_report.specs.Said.{Said, saying, unread, whole};
 ghost use Rattle.nugwier_report.specs.declared.problem.Part.TheVariants.{File};
 
 use crate::configured::{borrowed, listed_folders};
+use crate::processor::{hwcaps_of, level_for};
 use crate::usual::{lib_of, platform_of, usual_folders};
 use elf::endian::AnyEndian;
 use elf_linking::cache::{LibraryFlags, LinkerCache};
@@ -120,6 +121,8 @@ pub(crate) fn named_objects<F: Files>(
 {
     let library_path = library_path(alloc, search.folders)?;
     let usual_folders = usual_folders(alloc, program.kind)?;
+    let level = level_for(alloc, files, program.kind)?;
+    let hwcaps = hwcaps_of(alloc, level)?;
     let file = cache_file(search, files)?;
     let cache = cache_in(program.kind.order, &file);
     let listed = listed_folders(alloc, files, cache.is_some())?;
@@ -128,6 +131,7 @@ pub(crate) fn named_objects<F: Files>(
         library_path: Some(library_path.as_slice()),
         lib: lib_of(program.kind),
         platform: platform_of(program.kind),
+        hwcaps: hwcaps.as_slice(),
         cache: cache.as_ref(),
         flags: LibraryFlags::of(program.kind.machine, program.kind.class),
         listed_folders: listed_folders.as_slice(),

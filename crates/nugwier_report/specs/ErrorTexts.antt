@@ -218,6 +218,8 @@ versions_text versions.NoDynamicSymbols = words (codes "no symbols for dynamic l
 versions_text versions.CountOfIndexes = words (codes "not as many version indexes as symbols")
 versions_text (versions.UnknownIndex s) =
     words (codes "symbol ") ++? number s ++? words (codes ": no version with its index")
+versions_text (versions.AmbiguousIndex s) =
+    words (codes "symbol ") ++? number s ++? words (codes ": a definition and a need with its index")
 
 abbrev pub segment_text : SegmentFault → Option (List ℕ)
 segment_text segment.NoBytes = words (codes "does not lie in the file")

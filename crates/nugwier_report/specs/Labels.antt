@@ -1,4 +1,4 @@
--- The sections with which problems are told.
+-- The class of a file, which gives the digits of its addresses, and the sections with which its problems are told.
 use Rattle.std.specs.Prelude.{ℕ, ◌==◌, List, [], Option, Some, None, unwrap_or}
 use Rattle.std.specs.Borrow.{Bor}
 use Rattle.std.specs.List.{position, slice_get}
@@ -6,21 +6,24 @@ use Rattle.std.specs.Option.{option_map}
 use Rattle.std.specs.Result.{result_ok}
 use Rattle.elf_abi.specs.Values.{sht_dynamic, sht_dynsym, sht_gnu_versym, sht_symtab}
 use Rattle.elf_records.specs.StringTable.{string_at}
+use Rattle.elf_records.specs.declared.file.Class.{Class}
+use Rattle.elf_records.specs.declared.file.Class.TheVariants.{ELF64}
 use Rattle.elf_records.specs.declared.section.SectionHeader.{SectionHeader}
 use Rattle.nugwier_report.specs.declared.names.Labels.{Labels}
 use Rattle.nugwier_report.specs.declared.problem.Part.{Part}
 use Rattle.nugwier_report.specs.declared.problem.Part.TheVariants as part
 
--- sections, and their names, if these are known
+-- the class, the sections, and their names, if these are known
 pub record Named : Type 0 where
+  pub class : Class
   pub sections : List SectionHeader
   pub names : Option (List ℕ)
 
 abbrev pub no_sections : Named
-no_sections = record { sections = []; names = None }
+no_sections = record { class = ELF64; sections = []; names = None }
 
 abbrev pub named_by : Labels → Named
-named_by labels = record { sections = labels.sections.now; names = labels.names }
+named_by labels = record { class = labels.class; sections = labels.sections.now; names = labels.names }
 
 -- the first section of a type
 abbrev pub first_of : ℕ → List SectionHeader → Option ℕ

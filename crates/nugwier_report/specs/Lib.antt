@@ -13,12 +13,14 @@ pub mod Kinds
 pub mod Noted
 -- rows for people
 pub mod Text
--- the text of records
-pub mod Told
+-- the texts of several things
+pub mod Texts
 -- the text of problems: of the errors of the libraries, of the sections that they name, and of each problem
 pub mod ErrorTexts
 pub mod Labels
 pub mod Problems
+-- what a report writes
+pub mod Told
 -- what is said of each kind of item
 pub mod Header
 pub mod Sections
@@ -47,6 +49,8 @@ pub mod Dynamic
 pub mod Relocations
 pub mod Groups
 pub mod Chains
+pub mod Attributes
+pub mod DebugLinks
 pub mod Verdicts
 -- how a file is hardened
 pub mod Hardening

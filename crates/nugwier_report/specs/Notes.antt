@@ -1,5 +1,5 @@
 -- What is said of notes (gABI, chapter "Program Loading", "Note Section").
-use Rattle.std.specs.Prelude.{ℕ, ◌-◌, ◌==◌, Bool, if◌then◌else◌, List, [], ◌∷◌, Option, Some, codes, drop, length}
+use Rattle.std.specs.Prelude.{ℕ, ◌-◌, ◌==◌, Bool, if◌then◌else◌, List, [], ◌∷◌, Some, codes, drop, length}
 use Rattle.std.specs.Prelude.{nat_eq, take}
 use Rattle.std.specs.Cmp.Lexicographic.{pointwise}
 use Rattle.elf_abi.specs.Names.{name_of}

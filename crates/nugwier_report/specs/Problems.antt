@@ -1,19 +1,18 @@
--- The text of problems: a line for each, with the path of the file and the place.
-use Rattle.std.specs.Prelude.{◌≡◌, ℕ, ◌==◌, if◌then◌else◌, ◌++◌, List, [], ◌∷◌, Option, Some, None, IfSome, codes}
+-- The text of a problem: a line with the path of the file and the place.
+use Rattle.std.specs.Prelude.{◌≡◌, ℕ, ◌==◌, if◌then◌else◌, ◌++◌, List, Option, Some, None, IfSome, codes}
 use Rattle.std.specs.Fmt.{◌++?◌, decimal}
-use Rattle.std.specs.Io.KnownBytes.{Appends}
+use Rattle.elf_attributes.specs.Attributes.{error_text}
 use Rattle.elf_linking.specs.declared.bindings.kinds.SymbolFault.{SymbolFault}
 use Rattle.elf_linking.specs.declared.bindings.kinds.SymbolFault.TheVariants as symbol
 use Rattle.elf_linking.specs.declared.needed.NamesError.{NamesError}
 use Rattle.elf_linking.specs.declared.needed.NamesError.TheVariants as names
-use Rattle.elfshow_lines.specs.Pieces.{◌⧺◌, hex, newline}
+use Rattle.elf_tools.specs.DebugLink.{error_text as debug_link_text}
+use Rattle.elfshow_lines.specs.Pieces.{hex, newline}
 use Rattle.nugwier_report.specs.ErrorTexts.{DIGITS_of, digits_of, file_text, linked_text, number, object_text, plan_text}
 use Rattle.nugwier_report.specs.ErrorTexts.{read_text, section_text, uses_text, words}
 use Rattle.nugwier_report.specs.Escape.{shown_bytes}
 use Rattle.nugwier_report.specs.Hardening.{lack_text}
-use Rattle.nugwier_report.specs.Labels.{Named, label_of}
 use Rattle.nugwier_report.specs.Parts.{tag_name}
-use Rattle.nugwier_report.specs.Said.{Said, states, wrong}
 use Rattle.nugwier_report.specs.declared.problem.Fault.{Fault}
 use Rattle.nugwier_report.specs.declared.problem.Fault.TheVariants as fault
 use Rattle.nugwier_report.specs.declared.problem.Item.{Item}
@@ -106,6 +105,8 @@ fault_text fault.Missing = words (codes "the file has none")
 fault_text fault.Repeated = words (codes "left out: those up to here have more bytes than the file")
 fault_text fault.TooMany = words (codes "too many to list those of each segment")
 fault_text fault.LongChains = words (codes "its chains do not end, or share symbols")
+fault_text (fault.Attributes e) = words (error_text e)
+fault_text (fault.DebugLink e) = words (debug_link_text e)
 fault_text fault.NoAddress = words (codes "no entry DT_STRTAB gives their address")
 fault_text fault.NoSize = words (codes "no entry DT_STRSZ gives their size")
 fault_text (fault.NotLoaded address) =
@@ -157,21 +158,10 @@ problem_text (Some section) place t =
     ++ (codes ")" ++ (item_text place.item ++ t)))))
 problem_text None place t = in_part place.part place.item t
 
-abbrev pub problem_line : List ℕ → Named → Place → List ℕ → List ℕ
-problem_line path named place t =
-    (codes "nugwier: " ++ (shown_bytes path ++ (codes ": " ++ problem_text (label_of named place.part) place t)))
-    ++ newline
+-- what is told of a problem in this section, by a text of its fault
+abbrev pub IsTextAt : Option (ℕ × List ℕ) → Place → Fault → List ℕ → Type 0
+IsTextAt section place f told = (t : List ℕ) × IsTextOf f t × (told ≡ problem_text section place t)
 
--- ---- all problems
-
--- a line for each problem, in order
-abbrev pub IsProblemsText : List ℕ → Named → List Said → List ℕ → Type 0
-IsProblemsText path named [] text = text ≡ []
-IsProblemsText path named (states kind members ∷ said) text = IsProblemsText path named said text
-IsProblemsText path named (wrong place f ∷ said) text =
-    (t : List ℕ) × (after : List ℕ) × IsTextOf f t × IsProblemsText path named said after
-    × (text ≡ problem_line path named place t ++ after)
-
--- the writer of problems got exactly their text
-abbrev pub AreProblemsTold : List ℕ → Named → Option (List ℕ) → Option (List ℕ) → List Said → Type 0
-AreProblemsTold path named start now said = (text : List ℕ) × IsProblemsText path named said text × Appends start now text
+-- the line of a problem, with the path of the file
+abbrev pub problem_line : List ℕ → List ℕ → List ℕ
+problem_line path told = (codes "nugwier: " ++ (shown_bytes path ++ (codes ": " ++ told))) ++ newline

@@ -60,11 +60,16 @@ is_feature_type machine type = elim (feature_type machine) [ Some features ↦ f
 abbrev pub is_level_type : ℕ → ℕ → Bool
 is_level_type machine type = is_x86 machine && (type == 0xc0008002 || type == 0xc0010002)
 
+-- GNU_PROPERTY_X86_FEATURE_2_NEEDED and GNU_PROPERTY_X86_FEATURE_2_USED
+abbrev pub is_used_type : ℕ → ℕ → Bool
+is_used_type machine type = is_x86 machine && (type == 0xc0008001 || type == 0xc0010001)
+
 -- the flags in the number of a property
 unfoldable pub property_flags : ℕ → ℕ → List Flag
 property_flags machine type =
     if is_feature_type machine type then feature_flags machine
     else if is_level_type machine type then flags_in names.X86_LEVELS.now
+    else if is_used_type machine type then flags_in names.X86_USED.now
     else []
 
 -- types from GNU_PROPERTY_LOPROC on are those of a machine

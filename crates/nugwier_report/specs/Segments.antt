@@ -1,5 +1,5 @@
 -- What is said of segments (gABI, chapter "Program Header").
-use Rattle.std.specs.Prelude.{ℕ, List, [], ◌∷◌, Option, Some, codes}
+use Rattle.std.specs.Prelude.{ℕ, List, [], ◌∷◌, Some, codes}
 use Rattle.elf_names.specs.Flags.{segment_flags}
 use Rattle.elf_names.specs.Segments.{segment_type_name}
 use Rattle.elf_records.specs.declared.segment.ProgramHeader.{ProgramHeader}

@@ -3,13 +3,9 @@
 use Rattle.std.specs.Prelude.{ℕ, ◌==◌, ◌&&◌, ◌||◌, not, Bool, true, false, if◌then◌else◌}
 use Rattle.elf_abi.specs.Values.{shn_abs, shn_undef, stb_local}
 use Rattle.elf_records.specs.Symbol.{symbol_binding, symbol_type}
-use Rattle.elf_records.specs.declared.file.Class.{Class}
-use Rattle.elf_records.specs.declared.file.Class.TheVariants.{ELF32, ELF64}
 use Rattle.elf_records.specs.declared.symbol.Symbol.{Symbol}
 use Rattle.nugwier_report.specs.declared.kind.Kind.{Kind}
 use Rattle.nugwier_report.specs.declared.kind.Kind.TheVariants as kind
-use Rattle.nugwier_report.specs.declared.symbol_options.Columns.{Columns}
-use Rattle.nugwier_report.specs.declared.symbol_options.Columns.TheVariants.{Both, Nothing, Size, Value}
 use Rattle.nugwier_report.specs.declared.symbol_options.Extent.{Extent}
 use Rattle.nugwier_report.specs.declared.symbol_options.Extent.TheVariants.{All, Defined, Undefined}
 use Rattle.nugwier_report.specs.declared.symbol_options.SymbolOptions.{SymbolOptions}
@@ -63,26 +59,16 @@ is_selected options i s =
 -- ---- rows
 
 -- a size that is shown and not 0 follows the value; in the order of sizes it stands in its place
-abbrev pub sized_columns : Bool → SymbolOrder → Columns
-sized_columns true _ = Both
-sized_columns false order.Size = Size
-sized_columns false _ = Value
+abbrev pub sized_kind : Bool → SymbolOrder → Kind
+sized_kind true _ = kind.ValuedAndSizedSymbol
+sized_kind false order.Size = kind.SizedSymbol
+sized_kind false _ = kind.ValuedSymbol
 
 -- an undefined symbol has no number
-abbrev pub shown_columns : SymbolOptions → Symbol → Columns
-shown_columns options s =
-    if s.st_shndx == shn_undef then Nothing else if s.st_size == 0 then Value
-    else sized_columns options.has_sizes options.order
-
-abbrev pub letter_kind : Class → Columns → Kind
-letter_kind ELF32 Nothing = kind.Undefined32
-letter_kind ELF64 Nothing = kind.Undefined64
-letter_kind ELF32 Value = kind.Symbol32
-letter_kind ELF64 Value = kind.Symbol64
-letter_kind ELF32 Size = kind.Size32
-letter_kind ELF64 Size = kind.Size64
-letter_kind ELF32 Both = kind.SizedSymbol32
-letter_kind ELF64 Both = kind.SizedSymbol64
+abbrev pub letter_kind : SymbolOptions → Symbol → Kind
+letter_kind options s =
+    if s.st_shndx == shn_undef then kind.UndefinedSymbol else if s.st_size == 0 then kind.ValuedSymbol
+    else sized_kind options.has_sizes options.order
 
 -- in the form of POSIX (nm, option -P)
 abbrev pub portable_kind : Symbol → Kind
@@ -90,5 +76,5 @@ portable_kind s =
     if s.st_shndx == shn_undef then kind.PortableUndefined else if s.st_size == 0 then kind.Portable
     else kind.PortableSized
 
-abbrev pub row_kind : SymbolOptions → Class → Symbol → Kind
-row_kind options class s = if options.is_portable then portable_kind s else letter_kind class (shown_columns options s)
+abbrev pub row_kind : SymbolOptions → Symbol → Kind
+row_kind options s = if options.is_portable then portable_kind s else letter_kind options s

@@ -1,9 +1,9 @@
 -- What is said of symbols (gABI, chapter "Symbol Table").
-use Rattle.std.specs.Prelude.{ℕ, ◌==◌, ◌&&◌, ◌||◌, not, Bool, true, false, if◌then◌else◌, bit_and, nat_eq, List, []}
-use Rattle.std.specs.Prelude.{◌∷◌, ◌++◌}
+use Rattle.std.specs.Prelude.{ℕ, ◌==◌, ◌&&◌, ◌||◌, not, Bool, true, if◌then◌else◌, bit_and, nat_eq, List, []}
+use Rattle.std.specs.Prelude.{◌∷◌, ◌++◌, drop}
 use Rattle.std.specs.Prelude.{Option, Some, None, Result, Ok, Err, codes}
 use Rattle.std.specs.Char.{to_ascii_uppercase}
-use Rattle.std.specs.List.{slice_get}
+use Rattle.std.specs.List.{slice_get, starts_with}
 use Rattle.std.specs.Result.{result_ok}
 use Rattle.elf_abi.specs.Names.{name_of}
 use Rattle.elf_abi.specs.declared.abi.TheConstants.{SHN_XINDEX}
@@ -13,12 +13,11 @@ use Rattle.elf_abi.specs.Values.{stt_func, stt_gnu_ifunc, stt_object, stt_tls}
 use Rattle.elf_parts.specs.gnu_symver.Table.{Versions}
 use Rattle.elf_records.specs.StringTable.{string_at}
 use Rattle.elf_records.specs.Symbol.{symbol_binding, symbol_type, symbol_visibility}
-use Rattle.elf_records.specs.declared.file.Class.{Class}
 use Rattle.elf_records.specs.declared.parse.ParseError.{ParseError}
 use Rattle.elf_records.specs.declared.section.SectionHeader.{SectionHeader}
 use Rattle.elf_records.specs.declared.symbol.Symbol.{Symbol}
 use Rattle.elf_tools.specs.Addresses.{shn_common}
-use Rattle.nugwier_report.specs.Said.{Content, Members, Said, character, flag, nothing, number, states, text, unread}
+use Rattle.nugwier_report.specs.Said.{Members, Said, character, number, states, text, unread}
 use Rattle.nugwier_report.specs.Said.{word}
 use Rattle.nugwier_report.specs.SymbolOptions.{is_selected, row_kind}
 use Rattle.nugwier_report.specs.Versions.{Version, shown_version, version_default, version_name}
@@ -61,22 +60,36 @@ shf_execinstr = 4
 abbrev pub has_flag : ℕ → SectionHeader → Bool
 has_flag bit s = not (bit_and s.sh_flags bit == 0)
 
--- of a section: code, what is not loaded, data that is not in the file, data that can be written, data that cannot
-abbrev pub letter_in : SectionHeader → ℕ
-letter_in s =
-    if has_flag shf_execinstr s then 0x74  -- t
-    else if not (has_flag shf_alloc s) then 0x6e  -- n
-    else if s.sh_type == sht_nobits then 0x62  -- b
-    else if has_flag shf_write s then 0x64  -- d
-    else 0x72  -- r
+abbrev pub data_letter : SectionHeader → ℕ
+data_letter s = if has_flag shf_write s then 0x64 else 0x72  -- d, r
 
-abbrev pub letter_in_one : Option SectionHeader → ℕ
-letter_in_one (Some s) = letter_in s
-letter_in_one None = 0x3f  -- ?
+-- the names of sections for debuggers begin so, or the last one is the whole name (BFD, _bfd_elf_make_section_from_shdr)
+abbrev pub is_for_debugging : List ℕ → Bool
+is_for_debugging name =
+    starts_with ◌==◌ name (codes ".debug") || starts_with ◌==◌ name (codes ".zdebug")
+    || starts_with ◌==◌ name (codes ".gnu.debuglto_.debug_") || starts_with ◌==◌ name (codes ".gnu.linkonce.wi.")
+    || starts_with ◌==◌ name (codes ".line") || starts_with ◌==◌ name (codes ".stab")
+    || starts_with ◌==◌ name (codes ".gdb_index\0")
+
+-- of a section whose name is in these strings: code, what has no bytes in the file, and data; of what is not loaded, what
+-- is for debuggers, what can be written, and the rest (BFD, decode_section_type)
+abbrev pub letter_in : List ℕ → SectionHeader → ℕ
+letter_in names s =
+    if has_flag shf_execinstr s then 0x74  -- t
+    else if s.sh_type == sht_nobits then 0x62  -- b
+    else if has_flag shf_alloc s then data_letter s
+    else if is_for_debugging (drop s.sh_name names) then 0x4e  -- N
+    else if has_flag shf_write s then 0x3f  -- ?
+    else 0x6e  -- n
+
+abbrev pub letter_in_one : List ℕ → Option SectionHeader → ℕ
+letter_in_one names (Some s) = letter_in names s
+letter_in_one names None = 0x3f  -- ?
 
 -- of what is in this section, or of an absolute value
-abbrev pub section_letter : List SectionHeader → ℕ → ℕ
-section_letter sections n = if n == shn_abs then 0x61 else letter_in_one (slice_get sections n)  -- a
+abbrev pub section_letter : List SectionHeader → List ℕ → ℕ → ℕ
+section_letter sections names n =
+    if n == shn_abs then 0x61 else letter_in_one names (slice_get sections n)  -- a
 
 abbrev pub undefined_letter : Symbol → ℕ
 undefined_letter s =
@@ -91,32 +104,32 @@ weak_letter s = if symbol_type s == stt_object then 0x56 else 0x57  -- V, W
 abbrev pub cased_letter : Symbol → ℕ → ℕ
 cased_letter s letter = if symbol_binding s == stb_local then letter else to_ascii_uppercase letter
 
-abbrev pub letter_of : List SectionHeader → Symbol → ℕ
-letter_of sections s =
+abbrev pub letter_of : List SectionHeader → List ℕ → Symbol → ℕ
+letter_of sections names s =
     if s.st_shndx == shn_common then 0x43  -- C
     else if s.st_shndx == shn_undef then undefined_letter s
     else if symbol_type s == stt_gnu_ifunc then 0x69  -- i
     else if symbol_binding s == stb_weak then weak_letter s
     else if symbol_binding s == stb_gnu_unique then 0x75  -- u
-    else cased_letter s (section_letter sections s.st_shndx)
+    else cased_letter s (section_letter sections names s.st_shndx)
 
 -- ---- what is shown of symbols
 
--- all fields; a letter, in a file of this class with these sections, by the options of nm; names and versions alone, of
--- exports or of the functions among them
+-- all fields; a letter, in a file with these sections, whose names are in these strings, by the options of nm; names and
+-- versions alone, of exports or of the functions among them
 pub data Manner : Type 0 where
   all_fields : Manner
-  by_letter : Class → List SectionHeader → SymbolOptions → Manner
+  by_letter : List SectionHeader → List ℕ → SymbolOptions → Manner
   exports_alone : Bool → Manner
 
 abbrev pub form_view : Form → Manner
 form_view Fields = all_fields
-form_view (Letter class sections options) = by_letter class sections.now options
+form_view (Letter sections names options) = by_letter sections.now names.now options
 form_view (Export functions_only) = exports_alone functions_only
 
 -- the order of the symbols
 abbrev pub order_of : Manner → SymbolOrder
-order_of (by_letter class sections options) = options.order
+order_of (by_letter sections names options) = options.order
 order_of _ = Table
 
 -- it is a function (STT_FUNC) or one that is chosen when the file is loaded (STT_GNU_IFUNC)
@@ -139,17 +152,17 @@ is_export functions_only s =
 -- the symbol has a row
 abbrev pub is_listed : Manner → ℕ → Symbol → Bool
 is_listed all_fields i s = true
-is_listed (by_letter class sections options) i s = is_selected options i s
+is_listed (by_letter sections names options) i s = is_selected options i s
 is_listed (exports_alone functions_only) i s = is_export functions_only s
 
 abbrev pub symbol_kind : Manner → Symbol → Kind
 symbol_kind all_fields s = kind.Symbol
-symbol_kind (by_letter class sections options) s = row_kind options class s
+symbol_kind (by_letter sections names options) s = row_kind options s
 symbol_kind (exports_alone functions_only) s = kind.Export
 
 -- the letter, if it is shown
 abbrev pub shown_letter : Manner → Symbol → Option ℕ
-shown_letter (by_letter class sections options) s = Some (letter_of sections s)
+shown_letter (by_letter sections names options) s = Some (letter_of sections names s)
 shown_letter _ s = None
 
 -- ---- versions

@@ -10,13 +10,17 @@ use Rattle.std.specs.Str.{bytes_eq, encode_utf8_all}
 use Rattle.elf_abi.specs.Values.{elfdata2lsb}
 use Rattle.elf_abi.specs.declared.abi.TheConstants.{SHN_LORESERVE}
 use Rattle.elf_names.specs.Flags.{Flag, is_set}
+use Rattle.elf_records.specs.declared.file.Class.{Class}
+use Rattle.elf_records.specs.declared.file.Class.TheVariants.{ELF32, ELF64}
 use Rattle.elfshow_lines.specs.Pieces.{◌⧺◌, hex, hex_of, newline}
 use Rattle.nugwier_report.specs.Escape.{shown_bytes}
 use Rattle.nugwier_report.specs.Said.{Content, Members, bytes, character, flag, flags, nothing, number, signed, text}
 use Rattle.nugwier_report.specs.Said.{word}
 use Rattle.nugwier_report.specs.declared.text.Column.{Column}
+use Rattle.nugwier_report.specs.declared.text.Look.{Look}
 use Rattle.nugwier_report.specs.declared.text.Shown.{Shown}
 use Rattle.nugwier_report.specs.declared.text.Shown.TheVariants as shows
+use Rattle.nugwier_report.specs.declared.text.Style.{Style}
 use Rattle.nugwier_report.specs.declared.text.TheConstants.{LETTERS, OTHER_FLAGS}
 
 -- ---- numbers
@@ -60,7 +64,6 @@ segment_flags n =
 abbrev pub number_text : Shown → ℕ → List ℕ
 number_text (shows.Decimal width) n = shown_decimal width n
 number_text shows.Digits8 n = wide n
-number_text shows.Digits16 n = all_digits n
 number_text shows.Digits n = digits 16 false n
 number_text shows.Order n = shown_order n
 number_text shows.SectionFlags n = letters_of n
@@ -71,6 +74,20 @@ number_text _ n = hex n
 abbrev pub shown_number : Shown → Content → List ℕ
 shown_number form (number n) = number_text form n
 shown_number form _ = codes "-"
+
+-- in a file of a class: with the digits of its addresses, or with 16 if the number has more
+abbrev pub address_digits : Class → ℕ → List ℕ
+address_digits ELF32 n = wide n
+address_digits ELF64 n = all_digits n
+
+abbrev pub shown_address : Class → Content → List ℕ
+shown_address class (number n) = address_digits class n
+shown_address class _ = codes "-"
+
+-- the spaces by which the column of an address is wider
+abbrev pub room_of : Class → List ℕ
+room_of ELF32 = []
+room_of ELF64 = codes "        "
 
 -- in decimal
 abbrev pub shown_signed : Content → List ℕ
@@ -221,7 +238,6 @@ abbrev pub bytes_in : Content → List ℕ
 bytes_in (bytes b) = b
 bytes_in _ = []
 
--- the number that a value is, or 0
 -- the digits of the first four bytes, filled up with spaces, and a space
 abbrev pub dump_group : List ℕ → List ℕ
 dump_group part = hex_of (take 4 part) ⧺ replicate (2 * (4 - length part)) 32 ⧺ codes " "
@@ -270,9 +286,14 @@ content_at members place = content_of_one (slice_get members place)
 abbrev pub is_mark : ℕ → Bool
 is_mark b = b == 37
 
--- in wide rows, or in narrow ones
-module _ (is_wide : Bool) where
+-- what the cells depend on in a file of this class
+abbrev pub look_of : Style → Class → Look
+look_of style class = record { is_wide = style.is_wide; class = class }
+
+module _ (look : Look) where
   abbrev pub shown : Shown → Content → Members → List ℕ
+  shown shows.Address c members = shown_address look.class c
+  shown shows.Room c members = room_of look.class
   shown (shows.Addend symbol) c members = shown_addend c (content_at members symbol)
   shown (shows.Name skipped width n) c members = shown_name skipped width c (content_at members n)
   shown (shows.Index width n) c members = shown_index width c (content_at members n)
@@ -286,7 +307,7 @@ module _ (is_wide : Bool) where
   shown shows.Signed c members = shown_signed c
   shown (shows.Percent all) c members = shown_percent c (content_at members all)
   shown shows.Pairs c members = hex_of (bytes_in c)
-  shown (shows.Front most) c members = shown_front is_wide most (bytes_in c)
+  shown (shows.Front most) c members = shown_front look.is_wide most (bytes_in c)
   shown (shows.Dump address) c members = dump (number_in (content_at members address)) (bytes_in c)
   shown form c members = shown_number form c
 

@@ -1,15 +1,21 @@
--- The text of what is said: a line for each record. Problems are told elsewhere.
-use Rattle.std.specs.Prelude.{ℕ, ◌&&◌, List, [], Option, Some, None}
-use Rattle.std.specs.Io.KnownBytes.{Appends}
-use Rattle.std.specs.List.{flat_map}
+-- What a report writes: a line for each record and, as JSON, for each problem. Problems are also told elsewhere.
+use Rattle.std.specs.Prelude.{◌≡◌, ℕ, ◌&&◌, List, [], ◌∷◌, Option, Some, None, codes}
+use Rattle.elf_records.specs.declared.file.Class.{Class}
 use Rattle.nugwier_report.specs.Json.{object}
 use Rattle.nugwier_report.specs.Kinds.{is_heading, layout_of}
-use Rattle.nugwier_report.specs.Said.{Members, Said, states, wrong}
-use Rattle.nugwier_report.specs.Text.{bold_if, row_text}
+use Rattle.nugwier_report.specs.Labels.{Named, label_of}
+use Rattle.nugwier_report.specs.Parts.{part_member}
+use Rattle.nugwier_report.specs.Problems.{IsTextAt, problem_line}
+use Rattle.nugwier_report.specs.Said.{Content, Members, Said, number, states, text, wrong}
+use Rattle.nugwier_report.specs.Text.{bold_if, look_of, row_text}
+use Rattle.nugwier_report.specs.Texts.{AreAppended}
 use Rattle.nugwier_report.specs.declared.kind.Kind.{Kind}
+use Rattle.nugwier_report.specs.declared.problem.Part.{Part}
 use Rattle.nugwier_report.specs.declared.report.Format.{Format}
 use Rattle.nugwier_report.specs.declared.report.Format.TheVariants.{Json, Text}
 use Rattle.nugwier_report.specs.declared.text.Style.{Style}
+
+-- ---- a record
 
 -- an object, if its kind has a name
 abbrev pub object_if : List ℕ → Option (List ℕ) → Members → List ℕ
@@ -17,16 +23,48 @@ object_if path (Some name) members = object path name members
 object_if path None members = []
 
 -- the row of a record
-abbrev pub text_of : Style → Kind → Members → List ℕ
-text_of style kind members =
+abbrev pub text_of : Style → Class → Kind → Members → List ℕ
+text_of style class kind members =
     bold_if (style.is_bold && is_heading kind)
-    (row_text style.is_wide members (layout_of kind).row (layout_of kind).columns)
+    (row_text (look_of style class) members (layout_of kind).row (layout_of kind).columns)
 
-abbrev pub told_line : Format → List ℕ → Said → List ℕ
-told_line Json path (states kind members) = object_if path (layout_of kind).name members
-told_line (Text style) path (states kind members) = text_of style kind members
-told_line format path (wrong place fault) = []
+-- in a file of this class
+abbrev pub record_line : Format → List ℕ → Class → Kind → Members → List ℕ
+record_line Json path class kind members = object_if path (layout_of kind).name members
+record_line (Text style) path class kind members = text_of style class kind members
+
+-- ---- a problem
+
+-- its section or segment
+abbrev pub place_member : Option (ℕ × List ℕ) → Part → List ℕ × Content
+place_member (Some section) part = (codes "section", number section.0)
+place_member None part = part_member part
+
+-- an object with the text that is told of it; among rows for people a problem has none
+abbrev pub problem_record : Format → List ℕ → List ℕ × Content → List ℕ → List ℕ
+problem_record Json path place told =
+    object path (codes "problem") (place ∷ (codes "text", text (Some told)) ∷ [])
+problem_record (Text style) path place told = []
+
+-- ---- a report
+
+-- what is written of what is said
+abbrev pub IsLine : Format → List ℕ → Named → Said → List ℕ → Type 0
+IsLine format path named (states kind members) line = line ≡ record_line format path named.class kind members
+IsLine format path named (wrong place fault) line =
+    (told : List ℕ) × IsTextAt (label_of named place.part) place fault told
+    × (line ≡ problem_record format path (place_member (label_of named place.part) place.part) told)
+
+-- what is told of it elsewhere
+abbrev pub IsToldLine : List ℕ → Named → Said → List ℕ → Type 0
+IsToldLine path named (states kind members) line = line ≡ []
+IsToldLine path named (wrong place fault) line =
+    (told : List ℕ) × IsTextAt (label_of named place.part) place fault told × (line ≡ problem_line path told)
 
 -- the writer got exactly the text of what was said
-abbrev pub IsTold : Format → List ℕ → Option (List ℕ) → Option (List ℕ) → List Said → Type 0
-IsTold format path start now said = Appends start now (flat_map (told_line format path) said)
+abbrev pub IsTold : Format → List ℕ → Named → Option (List ℕ) → Option (List ℕ) → List Said → Type 0
+IsTold format path named start now said = AreAppended (IsLine format path named) start now said
+
+-- the writer of problems got exactly their text
+abbrev pub AreProblemsTold : List ℕ → Named → Option (List ℕ) → Option (List ℕ) → List Said → Type 0
+AreProblemsTold path named start now said = AreAppended (IsToldLine path named) start now said

@@ -6,9 +6,10 @@ use Rattle.elf_parts.specs.declared.gnu_symver.records.VerDef.{VerDef}
 use Rattle.elf_parts.specs.declared.gnu_symver.records.VerDefAux.{VerDefAux}
 use Rattle.elf_parts.specs.declared.gnu_symver.records.VerNeed.{VerNeed}
 use Rattle.elf_parts.specs.declared.gnu_symver.records.VerNeedAux.{VerNeedAux}
+use Rattle.elf_names.specs.Flags.{version_flags}
 use Rattle.elf_records.specs.StringTable.{string_at}
 use Rattle.nugwier_report.specs.Parts.{part_member}
-use Rattle.nugwier_report.specs.Said.{Members, Said, number, states, text, unread}
+use Rattle.nugwier_report.specs.Said.{Members, Said, flags, number, states, text, unread}
 use Rattle.nugwier_report.specs.declared.kind.Kind.TheVariants as kind
 use Rattle.nugwier_report.specs.declared.problem.Item.TheVariants.{VersionName}
 use Rattle.nugwier_report.specs.declared.problem.Part.{Part}
@@ -28,6 +29,7 @@ abbrev pub definition_members : Part → VerDef → Members
 definition_members part definition =
     part_member part
     ∷ (codes "vd_flags", number definition.vd_flags)
+    ∷ (codes "vd_flags_names", flags version_flags definition.vd_flags)
     ∷ (codes "vd_ndx", number definition.vd_ndx)
     ∷ (codes "vd_cnt", number definition.vd_cnt)
     ∷ (codes "vd_hash", number definition.vd_hash)
@@ -79,6 +81,7 @@ version_members part file version name =
     ∷ (codes "vn_file", number file)
     ∷ (codes "vna_hash", number version.vna_hash)
     ∷ (codes "vna_flags", number version.vna_flags)
+    ∷ (codes "vna_flags_names", flags version_flags version.vna_flags)
     ∷ (codes "vna_other", number version.vna_other)
     ∷ (codes "vna_name", number version.vna_name)
     ∷ (codes "name", text name)

@@ -406,6 +406,9 @@ impl fmt::Display for VersionsText {
             VersionsFault::UnknownIndex { symbol } => {
                 write!(f, "symbol {symbol}: no version with its index")
             }
+            VersionsFault::AmbiguousIndex { symbol } => {
+                write!(f, "symbol {symbol}: a definition and a need with its index")
+            }
         }
     }
 }

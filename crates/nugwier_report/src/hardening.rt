@@ -106,6 +106,7 @@ pub enum Requirement {
     Relro,
     BindNow,
     Nx,
+    Wx,
     Canary,
     Fortify,
     Runpath,
@@ -126,6 +127,7 @@ impl Requirement {
             Requirement::Relro => "relro",
             Requirement::BindNow => "bindnow",
             Requirement::Nx => "nx",
+            Requirement::Wx => "wx",
             Requirement::Canary => "canary",
             Requirement::Fortify => "fortify",
             Requirement::Runpath => "runpath",
@@ -146,6 +148,7 @@ impl Requirement {
             Requirement::Relro => "not full RELRO",
             Requirement::BindNow => "symbols are not bound at the start",
             Requirement::Nx => "the stack may be executable",
+            Requirement::Wx => "a segment is writable and executable",
             Requirement::Canary => "no stack canary",
             Requirement::Fortify => "no fortified functions",
             Requirement::Runpath => "a search path is unsafe",
@@ -166,6 +169,7 @@ impl Requirement {
             Requirement::Relro => matches!(hardening.relro, Some(Relro::Full)),
             Requirement::BindNow => is_yes(hardening.binds_now),
             Requirement::Nx => is_yes(hardening.has_nx),
+            Requirement::Wx => hardening.writable_code == 0,
             Requirement::Canary => is_yes(hardening.has_canary),
             Requirement::Fortify => is_fortified(hardening.fortified, hardening.fortifiable),
             Requirement::Runpath => hardening.is_path_unsafe == Some(false),
@@ -221,7 +225,12 @@ pub fn is_aarch64(machine: u16) -> bool
 }
 
 /// Features of code (x86-64 psABI, section "Program Property": `GNU_PROPERTY_X86_FEATURE_1_AND`).
-pub const X86_FEATURES: Flags = &[(0x1, 0x1, "IBT"), (0x2, 0x2, "SHSTK")];
+pub const X86_FEATURES: Flags = &[
+    (0x1, 0x1, "IBT"),
+    (0x2, 0x2, "SHSTK"),
+    (0x4, 0x4, "LAM_U48"),
+    (0x8, 0x8, "LAM_U57"),
+];
 
 /// Features of code (ELF for the Arm 64-bit Architecture, section "Program Property":
 /// `GNU_PROPERTY_AARCH64_FEATURE_1_AND`).

@@ -6,9 +6,9 @@ ghost use Rattle.nugwier_report.specs.Kinds.{is_heading, layout_of};
 
 use crate::text::Column;
 use crate::text::Shown::{
-    Addend, Character, Decimal, Depth, Digits, Digits8, Digits16, Dump, Flags, Front, Hexadecimal,
-    Index, Name, Order, Padded, Pairs, Percent, SectionFlags, SegmentFlags, Signed, Target, Text,
-    Version,
+    Addend, Address, Character, Decimal, Depth, Digits, Digits8, Dump, Flags, Front, Hexadecimal,
+    Index, Name, Order, Padded, Pairs, Percent, Room, SectionFlags, SegmentFlags, Signed, Target,
+    Text, Version,
 };
 
 /// A kind of record.
@@ -48,22 +48,14 @@ pub enum Kind {
     DynamicSymbolsHeading,
     /// A symbol with all its fields (gABI, chapter "Symbol Table").
     Symbol,
-    /// A symbol of a 32-bit file by its value and a letter.
-    Symbol32,
-    /// A symbol of a 64-bit file by its value and a letter.
-    Symbol64,
-    /// A symbol of a 32-bit file by its size and a letter.
-    Size32,
-    /// A symbol of a 64-bit file by its size and a letter.
-    Size64,
-    /// A symbol of a 32-bit file by its value, its size and a letter.
-    SizedSymbol32,
-    /// A symbol of a 64-bit file by its value, its size and a letter.
-    SizedSymbol64,
-    /// An undefined symbol of a 32-bit file by a letter.
-    Undefined32,
-    /// An undefined symbol of a 64-bit file by a letter.
-    Undefined64,
+    /// A symbol by its value and a letter.
+    ValuedSymbol,
+    /// A symbol by its size and a letter.
+    SizedSymbol,
+    /// A symbol by its value, its size and a letter.
+    ValuedAndSizedSymbol,
+    /// An undefined symbol by a letter.
+    UndefinedSymbol,
     /// A symbol in the form of POSIX: its name, a letter and its value.
     Portable,
     /// The same with its size.
@@ -148,6 +140,28 @@ pub enum Kind {
     ChainsHeading,
     /// How many buckets of a hash section have a chain of a length.
     ChainLength,
+    /// The heading of the build attributes of a section: its number and its name.
+    AttributesHeading,
+    /// What build attributes are of: the file, sections or symbols; they follow.
+    AttributeScope,
+    /// The number of a section or of a symbol that they are of.
+    AttributeTarget,
+    /// A build attribute with a number.
+    NumberAttribute,
+    /// A build attribute with a number that has a name.
+    NamedAttribute,
+    /// A build attribute with a text.
+    TextAttribute,
+    /// A build attribute with a number and a text.
+    PairAttribute,
+    /// The build attributes of a vendor whose form is not known.
+    VendorAttributes,
+    /// The heading of a link to a file with debug information: the number and the name of its section.
+    DebugLinkHeading,
+    /// A link to a file with debug information, with the checksum of the file.
+    DebugLink,
+    /// The same to a file that several files share, with the build ID of the file.
+    DebugAltLink,
     /// The heading of the bytes of a section: its number and its name.
     BytesHeading,
     /// The heading of the strings of a section.
@@ -227,14 +241,10 @@ impl Kind {
             Kind::SymbolsHeading => SYMBOLS_HEADING,
             Kind::DynamicSymbolsHeading => DYNAMIC_SYMBOLS_HEADING,
             Kind::Symbol => SYMBOL,
-            Kind::Symbol32 => SYMBOL_32,
-            Kind::Symbol64 => SYMBOL_64,
-            Kind::Size32 => SIZE_32,
-            Kind::Size64 => SIZE_64,
-            Kind::SizedSymbol32 => SIZED_SYMBOL_32,
-            Kind::SizedSymbol64 => SIZED_SYMBOL_64,
-            Kind::Undefined32 => UNDEFINED_32,
-            Kind::Undefined64 => UNDEFINED_64,
+            Kind::ValuedSymbol => VALUED_SYMBOL,
+            Kind::SizedSymbol => SIZED_SYMBOL,
+            Kind::ValuedAndSizedSymbol => VALUED_AND_SIZED_SYMBOL,
+            Kind::UndefinedSymbol => UNDEFINED_SYMBOL,
             Kind::Portable => PORTABLE,
             Kind::PortableSized => PORTABLE_SIZED,
             Kind::PortableUndefined => PORTABLE_UNDEFINED,
@@ -277,6 +287,17 @@ impl Kind {
             Kind::Vernaux => VERNAUX,
             Kind::ChainsHeading => CHAINS_HEADING,
             Kind::ChainLength => CHAIN_LENGTH,
+            Kind::AttributesHeading => ATTRIBUTES_HEADING,
+            Kind::AttributeScope => ATTRIBUTE_SCOPE,
+            Kind::AttributeTarget => ATTRIBUTE_TARGET,
+            Kind::NumberAttribute => NUMBER_ATTRIBUTE,
+            Kind::NamedAttribute => NAMED_ATTRIBUTE,
+            Kind::TextAttribute => TEXT_ATTRIBUTE,
+            Kind::PairAttribute => PAIR_ATTRIBUTE,
+            Kind::VendorAttributes => VENDOR_ATTRIBUTES,
+            Kind::DebugLinkHeading => DEBUG_LINK_HEADING,
+            Kind::DebugLink => DEBUG_LINK,
+            Kind::DebugAltLink => DEBUG_ALT_LINK,
             Kind::BytesHeading => BYTES_HEADING,
             Kind::StringsHeading => STRINGS_HEADING,
             Kind::NoBytes => NO_BYTES,
@@ -315,6 +336,7 @@ impl Kind {
             Kind::RelocationsHeading | Kind::RelocationTableHeading => true,
             Kind::SectionNotesHeading | Kind::SegmentNotesHeading => true,
             Kind::DefinedHeading | Kind::NeededHeading | Kind::ChainsHeading => true,
+            Kind::AttributesHeading | Kind::DebugLinkHeading => true,
             Kind::BytesHeading | Kind::StringsHeading | Kind::MappingsHeading => true,
             _ => false,
         }
@@ -367,14 +389,20 @@ File header:
     ],
 );
 
+// The number of rows under a heading.
+const COUNT_COLUMN: [Column; 1] = [Column(0, Decimal(0))];
+
+// Of the same heading above a column of addresses.
+const COUNT_AND_ROOM: [Column; 2] = [Column(0, Decimal(0)), Column(0, Room)];
+
 pub const SECTIONS_HEADING: Layout = (
     None,
     "\
-Sections (flags: W write, A alloc, X execute, M merge, S strings, I info,
+Sections, % in all (flags: W write, A alloc, X execute, M merge, S strings, I info,
 L link order, O of a system, G group, T thread, C compressed, R retain, l large, E exclude):
-  nr name               type             address          offset   size       es link info align flags
+  nr name               type             address % offset   size       es link info align flags
 ",
-    &[],
+    &COUNT_AND_ROOM,
 );
 
 pub const SECTION: Layout = (
@@ -384,7 +412,7 @@ pub const SECTION: Layout = (
         Column(0, Decimal(4)),
         Column(2, Padded(18)),
         Column(4, Name(4, 16, 3)),
-        Column(7, Digits16),
+        Column(7, Address),
         Column(8, Digits8),
         Column(9, Digits8),
         Column(13, Decimal(4)),
@@ -416,8 +444,8 @@ pub const GROUP_MEMBER: Layout = (
 
 pub const SEGMENTS_HEADING: Layout = (
     None,
-    "Segments:\n  nr type             offset   address          physical address file size memory   flags align\n",
-    &[],
+    "Segments, % in all:\n  nr type             offset   address % physical% file size memory   flags align\n",
+    &[Column(0, Decimal(0)), Column(0, Room), Column(0, Room)],
 );
 
 pub const SEGMENT: Layout = (
@@ -427,8 +455,8 @@ pub const SEGMENT: Layout = (
         Column(0, Decimal(4)),
         Column(2, Name(3, 16, 1)),
         Column(5, Digits8),
-        Column(6, Digits16),
-        Column(7, Digits16),
+        Column(6, Address),
+        Column(7, Address),
         Column(8, Digits8),
         Column(9, Digits8),
         Column(3, SegmentFlags),
@@ -452,14 +480,14 @@ pub const SEGMENT_SECTIONS_END: Layout = (None, "\n", &[]);
 
 pub const SYMBOLS_HEADING: Layout = (
     None,
-    "Symbols:\n    nr value                size type       binding    visibility section name\n",
-    &[],
+    "Symbols, % in all:\n    nr value   %     size type       binding    visibility section name\n",
+    &COUNT_AND_ROOM,
 );
 
 pub const DYNAMIC_SYMBOLS_HEADING: Layout = (
     None,
-    "Symbols for dynamic linking:\n    nr value                size type       binding    visibility section name\n",
-    &[],
+    "Symbols for dynamic linking, % in all:\n    nr value   %     size type       binding    visibility section name\n",
+    &COUNT_AND_ROOM,
 );
 
 pub const SYMBOL: Layout = (
@@ -467,7 +495,7 @@ pub const SYMBOL: Layout = (
     "% % % % % % % %%\n",
     &[
         Column(1, Decimal(6)),
-        Column(14, Digits16),
+        Column(14, Address),
         Column(15, Decimal(8)),
         Column(8, Name(4, 10, 7)),
         Column(6, Name(4, 10, 5)),
@@ -478,83 +506,50 @@ pub const SYMBOL: Layout = (
     ],
 );
 
-pub const SYMBOL_32: Layout = (
+pub const VALUED_SYMBOL: Layout = (
     Some("symbol"),
     "% % %%\n",
     &[
-        Column(14, Digits8),
+        Column(14, Address),
         Column(18, Character),
         Column(3, Text),
         Column(16, Version(17)),
     ],
 );
 
-pub const SYMBOL_64: Layout = (
+pub const SIZED_SYMBOL: Layout = (
     Some("symbol"),
     "% % %%\n",
     &[
-        Column(14, Digits16),
+        Column(15, Address),
         Column(18, Character),
         Column(3, Text),
         Column(16, Version(17)),
     ],
 );
 
-pub const SIZE_32: Layout = (
-    Some("symbol"),
-    "% % %%\n",
-    &[
-        Column(15, Digits8),
-        Column(18, Character),
-        Column(3, Text),
-        Column(16, Version(17)),
-    ],
-);
-
-pub const SIZE_64: Layout = (
-    Some("symbol"),
-    "% % %%\n",
-    &[
-        Column(15, Digits16),
-        Column(18, Character),
-        Column(3, Text),
-        Column(16, Version(17)),
-    ],
-);
-
-pub const SIZED_SYMBOL_32: Layout = (
+pub const VALUED_AND_SIZED_SYMBOL: Layout = (
     Some("symbol"),
     "% % % %%\n",
     &[
-        Column(14, Digits8),
-        Column(15, Digits8),
+        Column(14, Address),
+        Column(15, Address),
         Column(18, Character),
         Column(3, Text),
         Column(16, Version(17)),
     ],
 );
 
-pub const SIZED_SYMBOL_64: Layout = (
+pub const UNDEFINED_SYMBOL: Layout = (
     Some("symbol"),
-    "% % % %%\n",
+    "        % % %%\n",
     &[
-        Column(14, Digits16),
-        Column(15, Digits16),
+        Column(0, Room),
         Column(18, Character),
         Column(3, Text),
         Column(16, Version(17)),
     ],
 );
-
-const LETTER_COLUMNS: [Column; 3] = [
-    Column(18, Character),
-    Column(3, Text),
-    Column(16, Version(17)),
-];
-
-pub const UNDEFINED_32: Layout = (Some("symbol"), "         % %%\n", &LETTER_COLUMNS);
-
-pub const UNDEFINED_64: Layout = (Some("symbol"), "                 % %%\n", &LETTER_COLUMNS);
 
 pub const PORTABLE: Layout = (
     Some("symbol"),
@@ -597,8 +592,8 @@ pub const EXPORT: Layout = (
 
 pub const ENTRIES_HEADING: Layout = (
     None,
-    "Dynamic entries:\n  nr tag               value, string\n",
-    &[],
+    "Dynamic entries, % in all:\n  nr tag               value, string\n",
+    &COUNT_COLUMN,
 );
 
 pub const ENTRY: Layout = (
@@ -658,8 +653,8 @@ const HEADING_COLUMNS: [Column; 2] = [Column(0, Decimal(0)), Column(1, Text)];
 
 pub const RELOCATIONS_HEADING: Layout = (
     None,
-    "Relocations of section % (%):\n    nr offset           type                   symbol, addend\n",
-    &HEADING_COLUMNS,
+    "Relocations of section % (%):\n    nr offset  % type                   symbol, addend\n",
+    &[Column(0, Decimal(0)), Column(1, Text), Column(0, Room)],
 );
 
 pub const RELOCATION: Layout = (
@@ -667,7 +662,7 @@ pub const RELOCATION: Layout = (
     "% % % %%%\n",
     &[
         Column(1, Decimal(6)),
-        Column(2, Digits16),
+        Column(2, Address),
         Column(8, Name(0, 22, 7)),
         Column(4, Text),
         Column(5, Version(6)),
@@ -680,7 +675,7 @@ pub const MIPS_RELOCATION: Layout = (
     "% % %/%/% %%%\n",
     &[
         Column(1, Decimal(6)),
-        Column(2, Digits16),
+        Column(2, Address),
         Column(8, Name(0, 0, 7)),
         Column(13, Name(0, 0, 12)),
         Column(15, Name(0, 0, 14)),
@@ -693,13 +688,13 @@ pub const MIPS_RELOCATION: Layout = (
 pub const RELATIVE: Layout = (
     Some("relative_relocation"),
     "       %\n",
-    &[Column(1, Digits16)],
+    &[Column(1, Address)],
 );
 
 pub const RELOCATION_TABLE_HEADING: Layout = (
     None,
-    "Relocations of %:\n    nr offset           type                   symbol, addend\n",
-    &[Column(0, Text)],
+    "Relocations of %:\n    nr offset  % type                   symbol, addend\n",
+    &[Column(0, Text), Column(0, Room)],
 );
 
 pub const SECTION_NOTES_HEADING: Layout = (None, "Notes of section % (%):\n", &HEADING_COLUMNS);
@@ -771,8 +766,8 @@ pub const MAPPED_FILE: Layout = (
     Some("note_file"),
     "    %-% page %  %\n",
     &[
-        Column(2, Digits16),
-        Column(3, Digits16),
+        Column(2, Address),
+        Column(3, Address),
         Column(4, Hexadecimal),
         Column(5, Text),
     ],
@@ -815,10 +810,15 @@ pub const NEEDED_HEADING: Layout = (
     &HEADING_COLUMNS,
 );
 
+// The names of flags without `VER_FLG_`.
 pub const VERDEF: Layout = (
     Some("verdef"),
-    "  % flags % ",
-    &[Column(2, Decimal(5)), Column(1, Hexadecimal)],
+    "  % flags %% ",
+    &[
+        Column(3, Decimal(5)),
+        Column(1, Hexadecimal),
+        Column(2, Flags(8)),
+    ],
 );
 
 pub const VERDAUX: Layout = (Some("verdaux"), " %", &[Column(3, Text)]);
@@ -829,11 +829,12 @@ pub const VERNEED: Layout = (Some("verneed"), "  of %\n", &[Column(3, Text)]);
 
 pub const VERNAUX: Layout = (
     Some("vernaux"),
-    "  % flags %  %\n",
+    "  % flags %%  %\n",
     &[
-        Column(4, Decimal(5)),
+        Column(5, Decimal(5)),
         Column(3, Hexadecimal),
-        Column(6, Text),
+        Column(4, Flags(8)),
+        Column(7, Text),
     ],
 );
 
@@ -856,6 +857,73 @@ pub const CHAIN_LENGTH: Layout = (
         Column(2, Percent(3)),
         Column(4, Percent(5)),
     ],
+);
+
+pub const ATTRIBUTES_HEADING: Layout = (
+    None,
+    "Build attributes of section % (%):\n",
+    &HEADING_COLUMNS,
+);
+
+// The names of tags without `Tag_`.
+pub const ATTRIBUTE_SCOPE: Layout = (
+    Some("attribute_scope"),
+    "  % attributes of %\n",
+    &[Column(3, Name(4, 0, 2)), Column(1, Text)],
+);
+
+pub const ATTRIBUTE_TARGET: Layout = (
+    Some("attribute_target"),
+    "    for %\n",
+    &[Column(4, Decimal(0))],
+);
+
+pub const NUMBER_ATTRIBUTE: Layout = (
+    Some("attribute"),
+    "    %  %\n",
+    &[Column(5, Name(4, 27, 4)), Column(6, Decimal(0))],
+);
+
+pub const NAMED_ATTRIBUTE: Layout = (
+    Some("attribute"),
+    "    %  %\n",
+    &[Column(5, Name(4, 27, 4)), Column(7, Name(0, 0, 6))],
+);
+
+pub const TEXT_ATTRIBUTE: Layout = (
+    Some("attribute"),
+    "    %  %\n",
+    &[Column(5, Name(4, 27, 4)), Column(8, Text)],
+);
+
+pub const PAIR_ATTRIBUTE: Layout = (
+    Some("attribute"),
+    "    %  %, %\n",
+    &[
+        Column(5, Name(4, 27, 4)),
+        Column(6, Decimal(0)),
+        Column(8, Text),
+    ],
+);
+
+pub const VENDOR_ATTRIBUTES: Layout = (
+    Some("vendor_attributes"),
+    "  attributes of %, of a form of its own: %\n",
+    &[Column(1, Text), Column(2, Front(32))],
+);
+
+pub const DEBUG_LINK_HEADING: Layout = (None, "Debug link of section % (%):\n", &HEADING_COLUMNS);
+
+pub const DEBUG_LINK: Layout = (
+    Some("debug_link"),
+    "  %  CRC 0x%\n",
+    &[Column(1, Text), Column(2, Digits8)],
+);
+
+pub const DEBUG_ALT_LINK: Layout = (
+    Some("debug_alt_link"),
+    "  %  build id %\n",
+    &[Column(1, Text), Column(2, Pairs)],
 );
 
 pub const BYTES_HEADING: Layout = (None, "Bytes of section % (%):\n", &HEADING_COLUMNS);
@@ -886,15 +954,15 @@ pub const SECTION_STRING: Layout = (
 
 pub const MAPPINGS_HEADING: Layout = (
     None,
-    "address            memory     bytes of the file      flags\n",
-    &[],
+    "address   % memory     bytes of the file      flags\n",
+    &[Column(0, Room)],
 );
 
 pub const MAPPING: Layout = (
     Some("mapping"),
     "0x% 0x% 0x% at 0x% %\n",
     &[
-        Column(0, Digits16),
+        Column(0, Address),
         Column(1, Digits8),
         Column(3, Digits8),
         Column(2, Digits8),

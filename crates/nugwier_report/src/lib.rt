@@ -4,11 +4,13 @@
 #![tactic(auto)]
 
 pub mod addresses;
+pub mod attributes;
 pub mod bindings;
 pub mod build_id;
 pub mod chains;
 pub mod contents;
 mod core_notes;
+pub mod debug_links;
 mod descriptors;
 pub mod dynamic;
 mod error_texts;

@@ -1,11 +1,14 @@
 //! What is said of the memory that a loader maps.
-ghost use Rattle.nugwier_report.specs.Mappings.{mapping_said};
+ghost use Rattle.std.specs.Prelude.{◌≡◌};
+ghost use Rattle.nugwier_report.specs.Mappings.{mapping_members, mapping_said};
+ghost use Rattle.nugwier_report.specs.Noted.{members_said};
 
-use crate::json::Value;
+use crate::json::{Member, Value};
 use crate::kind::Kind;
 use crate::problem::Stop;
 use crate::report::Report;
 use crate::rows::Row;
+use elf_names::flags::segment_flags;
 use elf_tools::load_plan::Mapping;
 use std::io::Write;
 
@@ -24,13 +27,23 @@ impl Row for MappingRow {
         mapping: &Mapping,
         report: &mut Report<'_, W, V>,
     ) -> Result<(), Stop> {
-        let members = [
-            ("p_vaddr", Value::Number(mapping.address)),
-            ("p_memsz", Value::Number(mapping.memory_size)),
-            ("p_offset", Value::Number(mapping.offset)),
-            ("p_filesz", Value::Number(mapping.file_size)),
-            ("p_flags", Value::Number(mapping.flags as u64)),
-        ];
-        report.state(Kind::Mapping, &members)
+        report.state(Kind::Mapping, &mapping_members(mapping))
     }
+}
+
+#[tactic(auto, unfolding(crate::specs::Mappings::mapping_members))]
+fn mapping_members(mapping: &Mapping) -> [Member<'static>; 6]
+    ensures { members_said result ≡ mapping_members mapping.now }
+{
+    [
+        ("p_vaddr", Value::Number(mapping.address)),
+        ("p_memsz", Value::Number(mapping.memory_size)),
+        ("p_offset", Value::Number(mapping.offset)),
+        ("p_filesz", Value::Number(mapping.file_size)),
+        ("p_flags", Value::Number(mapping.flags as u64)),
+        (
+            "p_flags_names",
+            Value::Flags(segment_flags(), mapping.flags as u64),
+        ),
+    ]
 }

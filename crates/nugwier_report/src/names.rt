@@ -5,12 +5,15 @@ ghost use Rattle.nugwier_report.specs.Labels.{number_of, section_name};
 
 use crate::problem::Part;
 use elf_abi::abi;
+use elf_parts::file::Class;
 use elf_parts::section::SectionHeader;
 use elf_parts::string_table::TerminatedStrings;
 
-/// The sections of a file, and their names, if these are known.
+/// What lines depend on of the file that they are about: its class, which gives the digits of its addresses, its sections,
+/// and their names, if these are known.
 #[derive(Drop)]
 pub struct Labels<'a> {
+    pub class: Class,
     pub sections: &'a [SectionHeader],
     pub names: Option<TerminatedStrings<'a>>,
 }

@@ -10,11 +10,13 @@ use crate::error_texts::{
 use crate::escape::Escaped;
 use crate::hardening::Requirement;
 use crate::quoted::{NamesFault, Quoted, QuotedSymbol, UnknownBinding};
+use elf_attributes::attributes::AttributeError;
 use elf_check::faults::{FileFault, SectionFault};
 use elf_dynamic::dynamic_view::DynamicError;
 use elf_linking::bindings::uses::UsesError;
 use elf_linking::resolve::ObjectFault;
 use elf_parts::parse::ParseError;
+use elf_tools::debug_link::DebugLinkError;
 use elf_tools::load_plan::PlanError;
 use std::alloc::{AllocError, AllocFailed};
 use std::{fmt, io};
@@ -145,6 +147,10 @@ pub enum Fault<'a> {
     TooMany,
     /// The chains of a hash section have more symbols than the section has chain words.
     LongChains,
+    /// Its build attributes cannot be read on.
+    Attributes(AttributeError),
+    /// Its link to a file with debug information cannot be read.
+    DebugLink(DebugLinkError),
     /// No entry gives the address of the strings.
     NoAddress,
     /// No entry gives the size of the strings.
@@ -207,6 +213,8 @@ impl fmt::Display for Fault<'_> {
             }
             Fault::TooMany => f.write_str("too many to list those of each segment"),
             Fault::LongChains => f.write_str("its chains do not end, or share symbols"),
+            Fault::Attributes(error) => write!(f, "{error}"),
+            Fault::DebugLink(error) => write!(f, "{error}"),
             Fault::NoAddress => f.write_str("no entry DT_STRTAB gives their address"),
             Fault::NoSize => f.write_str("no entry DT_STRSZ gives their size"),
             Fault::NotLoaded(address) => {

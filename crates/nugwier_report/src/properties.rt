@@ -5,6 +5,7 @@ ghost use Rattle.elf_names.specs.Table.{rows_of};
 ghost use Rattle.elf_records.specs.Endian.{any_is_little};
 ghost use Rattle.nugwier_report.specs.Noted.{members_said};
 ghost use Rattle.nugwier_report.specs.Properties.{feature_type, is_feature_type, is_level_type, is_property_note};
+ghost use Rattle.nugwier_report.specs.Properties.{is_used_type};
 ghost use Rattle.nugwier_report.specs.Properties.{number_in, padded, properties_said, property_at, property_flags};
 ghost use Rattle.nugwier_report.specs.Properties.{property_members, property_name, property_number};
 ghost use Rattle.nugwier_report.specs.Properties.{property_said, property_types};
@@ -22,7 +23,8 @@ use elf_parts::endian::{AnyEndian, EndianParse};
 use elf_parts::file::Class;
 use std::io::Write;
 
-/// The file of notes, as their descriptors depend on it: its byte order, its class, and its machine (`e_machine`).
+/// A file, as the descriptors of notes and build attributes depend on it: its byte order, its class, and its machine
+/// (`e_machine`).
 #[derive(Clone, Copy)]
 pub struct NoteFile {
     pub is_little: bool,
@@ -145,6 +147,23 @@ pub const X86_LEVELS: Flags = &[
     (0x8, 0x8, "x86-64-v4"),
 ];
 
+/// Parts of the processor that code uses (System V ABI, AMD64 supplement, section "Program Property":
+/// `GNU_PROPERTY_X86_FEATURE_2_USED`).
+pub const X86_USED: Flags = &[
+    (0x1, 0x1, "X86"),
+    (0x2, 0x2, "X87"),
+    (0x4, 0x4, "MMX"),
+    (0x8, 0x8, "XMM"),
+    (0x10, 0x10, "YMM"),
+    (0x20, 0x20, "ZMM"),
+    (0x40, 0x40, "FXSR"),
+    (0x80, 0x80, "XSAVE"),
+    (0x100, 0x100, "XSAVEOPT"),
+    (0x200, 0x200, "XSAVEC"),
+    (0x400, 0x400, "TMM"),
+    (0x800, 0x800, "MASK"),
+];
+
 /// Returns the type of the property that has the features of all code, by the machine.
 pub fn feature_type(machine: u16) -> Option<u32>
     ensures { result ≡ feature_type machine }
@@ -173,6 +192,12 @@ fn is_level_type(machine: u16, kind: u32) -> bool
     is_x86(machine) && (kind == 0xc000_8002 || kind == 0xc001_0002)
 }
 
+fn is_used_type(machine: u16, kind: u32) -> bool
+    ensures { result ≡ is_used_type machine kind }
+{
+    is_x86(machine) && (kind == 0xc000_8001 || kind == 0xc001_0001)
+}
+
 // The flags in the number of a property.
 #[tactic(auto, unfolding(crate::specs::Properties::property_flags))]
 fn property_flags(machine: u16, kind: u32) -> Flags
@@ -182,6 +207,8 @@ fn property_flags(machine: u16, kind: u32) -> Flags
         feature_flags(machine)
     } else if is_level_type(machine, kind) {
         X86_LEVELS
+    } else if is_used_type(machine, kind) {
+        X86_USED
     } else {
         &[]
     }

@@ -1,21 +1,23 @@
 //! A report of a file: what is said of it is written as it comes.
-ghost use Rattle.std.specs.Prelude.{◌≡◌, ◌∷◌, [], ◌++◌, false, true, IfOk, OnOk, List};
+ghost use Rattle.std.specs.Prelude.{◌≡◌, ◌∷◌, [], ◌++◌, false, true, IfOk, OnOk, List, string_bytes};
 ghost use Rattle.std.specs.Io.KnownBytes.{Appends};
 ghost use Rattle.std.specs.Result.{result_ok};
 ghost use Rattle.nugwier_report.specs.Kinds.{layout_of};
-ghost use Rattle.nugwier_report.specs.Labels.{named_by};
-ghost use Rattle.nugwier_report.specs.Noted.{members_said, noted};
-ghost use Rattle.nugwier_report.specs.Problems.{AreProblemsTold, problem_line};
-ghost use Rattle.nugwier_report.specs.Said.{all_right, is_right_one, saying, states, unread, wrong};
-ghost use Rattle.nugwier_report.specs.Told.{IsTold, object_if, text_of, told_line};
+ghost use Rattle.nugwier_report.specs.Labels.{label_seen, named_by};
+ghost use Rattle.nugwier_report.specs.Noted.{member_said, members_said};
+ghost use Rattle.nugwier_report.specs.Problems.{IsTextAt, problem_line};
+ghost use Rattle.nugwier_report.specs.Said.{all_right, saying, states, unread, wrong};
+ghost use Rattle.nugwier_report.specs.Told.{AreProblemsTold, IsTold, object_if, place_member, problem_record};
+ghost use Rattle.nugwier_report.specs.Told.{record_line, text_of};
 
 use crate::escape::Escaped;
-use crate::json::{Member, write_object};
+use crate::json::{Member, Value, part_member, write_object};
 use crate::kind::Kind;
 use crate::log::{Log, Note};
 use crate::names::Labels;
-use crate::problem::{Fault, Place, Stop, Told};
+use crate::problem::{Fault, Part, Place, Stop, Told};
 use crate::text::{Style, write_row};
+use elf_parts::file::Class;
 use elf_parts::parse::ParseError;
 use std::alloc::Global;
 use std::io;
@@ -60,9 +62,8 @@ pub struct Summary {
 impl<'p, W: Write, V: Write> Model for Report<'p, W, V> {
     ghost use Rattle.std.specs.Prelude.{◌≡◌, false, true};
     ghost use Rattle.nugwier_report.specs.Labels.{named_by};
-    ghost use Rattle.nugwier_report.specs.Problems.{AreProblemsTold};
     ghost use Rattle.nugwier_report.specs.Said.{Telling, all_right};
-    ghost use Rattle.nugwier_report.specs.Told.{IsTold};
+    ghost use Rattle.nugwier_report.specs.Told.{AreProblemsTold, IsTold};
 
     ghost Value = { Telling };
 
@@ -77,8 +78,8 @@ impl<'p, W: Write, V: Write> Model for Report<'p, W, V> {
       said = r.log.said;
     } };
 
-    ghost invariant = { λ r. (r.is_lost
-        ≡ false → IsTold r.format r.path.now (W.contents r.log.start) (W.contents r.out) r.log.said)
+    ghost invariant = { λ r. (r.is_lost ≡ false → IsTold r.format r.path.now (named_by r.labels)
+        (W.contents r.log.start) (W.contents r.out) r.log.said)
         × (r.is_right ≡ all_right r.log.said)
         × (r.is_told ≡ true → AreProblemsTold r.path.now (named_by r.labels) (V.contents r.told.start)
         (V.contents r.err) r.log.said) };
@@ -125,8 +126,8 @@ impl<'p, W: Write, V: Write> Report<'p, W, V> {
     /// Returns what the report came to, and the writers. Unless a write failed, they got the text of what was said.
     pub fn end(self) -> (Summary, W, V)
         ensures right { result.0.is_right ≡ all_right self.entry.said }
-        ensures text { self.entry.is_lost
-            ≡ false → IsTold self.entry.format self.entry.path self.entry.start (W.contents result.1) self.entry.said }
+        ensures text { self.entry.is_lost ≡ false → IsTold self.entry.format self.entry.path self.entry.named
+            self.entry.start (W.contents result.1) self.entry.said }
         ensures problems { result.0.is_told ≡ true → AreProblemsTold self.entry.path self.entry.named
             self.entry.told_start (V.contents result.2) self.entry.said }
     {
@@ -150,9 +151,15 @@ impl<'p, W: Write, V: Write> Report<'p, W, V> {
     pub fn state(&mut self, kind: Kind, members: &[Member<'_>]) -> Result<(), Stop>
         ensures { OnOk result (self.new ≡ saying self.old (states kind (members_said members.now) ∷ [])) }
     {
-        let note = Note::States(kind, members);
-        self.log = self.log.then(&note);
-        if let Err(error) = write_note(self.path, self.format, &note, &mut self.out) {
+        self.log = self.log.then(&Note::States(kind, members));
+        if let Err(error) = write_record(
+            self.path,
+            self.format,
+            self.labels.class,
+            kind,
+            members,
+            &mut self.out,
+        ) {
             self.is_lost = true;
             return Err(Stop::Write(error));
         }
@@ -164,15 +171,23 @@ impl<'p, W: Write, V: Write> Report<'p, W, V> {
     pub fn problem(&mut self, place: Place, fault: Fault<'_>) -> Result<(), Stop>
         ensures { OnOk result (self.new ≡ saying self.old (wrong place fault.entry ∷ [])) }
     {
-        let text = format!(in self.alloc; "{fault}")?;
+        let section = self.labels.of(place.part);
+        let text = problem_text(self.alloc, place, section, &fault)?;
         self.log = self.log.then(&Note::Wrong(place, &fault));
         self.is_right = false;
-        if let Err(error) = self.out.flush() {
+        let member = place_member(section, place.part);
+        if let Err(error) = write_problem(
+            self.path,
+            self.format,
+            member,
+            text.as_str(),
+            &mut self.out,
+        ) {
             self.is_lost = true;
             self.is_told = false;
             return Err(Stop::Write(error));
         }
-        let told = tell(self.path, &self.labels, place, text.as_str(), &mut self.err);
+        let told = tell(self.path, text.as_str(), &mut self.err);
         self.is_told &= told.is_ok();
         Ok(())
     }
@@ -196,32 +211,37 @@ impl<'p, W: Write, V: Write> Report<'p, W, V> {
     }
 }
 
-// Writes what is said, if it is not wrong.
-fn write_note<W: Write>(path: &str, format: Format, note: &Note<'_>, out: &mut W) -> io::Result<()>
+// Writes a record.
+fn write_record<W: Write>(
+    path: &str,
+    format: Format,
+    class: Class,
+    kind: Kind,
+    members: &[Member<'_>],
+    out: &mut W,
+) -> io::Result<()>
     ensures { OnOk result (Appends (W.contents out.old) (W.contents out.new)
-        (told_line format path.now (noted note.now))) }
+        (record_line format path.now class kind (members_said members.now))) }
 {
-    match (*note, format) {
-        (Note::States(kind, members), Format::Json) => write_named(path, kind, members, out),
-        (Note::States(kind, members), Format::Text(style)) => {
-            write_text(style, kind, members, out)
-        }
-        (Note::Wrong(_, _), _) => Ok(()),
+    match format {
+        Format::Json => write_named(path, kind, members, out),
+        Format::Text(style) => write_text(style, class, kind, members, out),
     }
 }
 
 // Writes the row of a record.
 fn write_text<W: Write>(
     style: Style,
+    class: Class,
     kind: Kind,
     members: &[Member<'_>],
     out: &mut W,
 ) -> io::Result<()>
     ensures { OnOk result (Appends (W.contents out.old) (W.contents out.new)
-        (text_of style kind (members_said members.now))) }
+        (text_of style class kind (members_said members.now))) }
 {
     let (_, row, columns) = kind.layout();
-    write_row(style, kind.is_heading(), row, columns, members, out)
+    write_row(style, class, kind.is_heading(), row, columns, members, out)
 }
 
 // Writes an object, if the kind of the record has a name.
@@ -240,23 +260,58 @@ fn write_named<W: Write>(
     }
 }
 
-// Tells what is wrong, a line with the path of the file and this text of the fault.
-fn tell<V: Write>(
-    path: &str,
-    labels: &Labels<'_>,
+// What is told of a problem at a place, in this section.
+fn problem_text(
+    alloc: Global,
     place: Place,
-    fault: &str,
-    err: &mut V,
-) -> io::Result<()>
-    ensures { OnOk result (Appends (V.contents err.old) (V.contents err.new)
-        (problem_line path.now (named_by labels.now) place fault.now)) }
+    section: Option<(u64, &[u8])>,
+    fault: &Fault<'_>,
+) -> Result<String, Stop>
+    ensures { IfOk result (λ told. IsTextAt (label_seen section.entry) place fault.now (string_bytes told)) }
 {
-    let path = Escaped(path.as_bytes());
+    let fault = format!(in alloc; "{fault}")?;
     let told = Told {
         place,
-        section: labels.of(place.part),
-        fault,
+        section,
+        fault: fault.as_str(),
     };
+    let text = format!(in alloc; "{told}")?;
+    Ok(text)
+}
+
+// The section or the segment of a problem.
+fn place_member(section: Option<(u64, &[u8])>, part: Part) -> Member<'static>
+    ensures { member_said result ≡ place_member (label_seen section.entry) part }
+{
+    match section {
+        Some((number, _)) => ("section", Value::Number(number)),
+        None => part_member(part),
+    }
+}
+
+// Writes a problem as an object, and then what is held back. Among rows for people it has none.
+fn write_problem<W: Write>(
+    path: &str,
+    format: Format,
+    place: Member<'_>,
+    told: &str,
+    out: &mut W,
+) -> io::Result<()>
+    ensures { OnOk result (Appends (W.contents out.old) (W.contents out.new)
+        (problem_record format path.now (member_said place.entry) told.now)) }
+{
+    if let Format::Json = format {
+        let text = Value::Text(Some(told.as_bytes()));
+        write_object(path, "problem", &[place, ("text", text)], out)?;
+    }
+    out.flush()
+}
+
+// Tells of a problem, a line with the path of the file.
+fn tell<V: Write>(path: &str, told: &str, err: &mut V) -> io::Result<()>
+    ensures { OnOk result (Appends (V.contents err.old) (V.contents err.new) (problem_line path.now told.now)) }
+{
+    let path = Escaped(path.as_bytes());
     writeln!(err, "nugwier: {path}: {told}")?;
     err.flush()
 }

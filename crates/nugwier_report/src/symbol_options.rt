@@ -1,11 +1,10 @@
 //! The options of `symbols`, which are those of GNU `nm`: which symbols are listed, and how.
 ghost use Rattle.std.specs.Prelude.{◌≡◌};
 ghost use Rattle.nugwier_report.specs.SymbolOptions.{is_external, is_for_debuggers, is_of_extent, is_selected, is_sized};
-ghost use Rattle.nugwier_report.specs.SymbolOptions.{letter_kind, no_options, portable_kind, row_kind, shown_columns};
+ghost use Rattle.nugwier_report.specs.SymbolOptions.{letter_kind, no_options, portable_kind, row_kind};
 
 use crate::kind::Kind;
 use elf_abi::abi;
-use elf_parts::file::Class;
 use elf_parts::symbol::Symbol;
 
 /// Which symbols are listed, by whether they are defined.
@@ -43,15 +42,6 @@ pub struct SymbolOptions {
     pub functions_only: bool,
 }
 
-// The numbers that a row shows before the letter.
-#[derive(Clone, Copy)]
-enum Columns {
-    Nothing,
-    Value,
-    Size,
-    Both,
-}
-
 impl SymbolOptions {
     /// What is asked for without options.
     pub fn none() -> SymbolOptions
@@ -80,30 +70,30 @@ impl SymbolOptions {
             && self.order.has(symbol)
     }
 
-    // The kind of a symbol's record, in a file of this class.
-    pub(crate) fn kind(self, class: Class, symbol: &Symbol) -> Kind
-        ensures { result ≡ row_kind self class symbol.now }
+    // The kind of a symbol's record.
+    pub(crate) fn kind(self, symbol: &Symbol) -> Kind
+        ensures { result ≡ row_kind self symbol.now }
     {
         if self.is_portable {
             portable_kind(symbol)
         } else {
-            letter_kind(class, self.shown_columns(symbol))
+            self.letter_kind(symbol)
         }
     }
 
-    fn shown_columns(self, symbol: &Symbol) -> Columns
-        ensures { result ≡ shown_columns self symbol.now }
+    fn letter_kind(self, symbol: &Symbol) -> Kind
+        ensures { result ≡ letter_kind self symbol.now }
     {
         if symbol.is_undefined() {
-            return Columns::Nothing;
+            return Kind::UndefinedSymbol;
         }
         if symbol.st_size == 0 {
-            return Columns::Value;
+            return Kind::ValuedSymbol;
         }
         match (self.has_sizes, self.order) {
-            (true, _) => Columns::Both,
-            (false, SymbolOrder::Size) => Columns::Size,
-            (false, _) => Columns::Value,
+            (true, _) => Kind::ValuedAndSizedSymbol,
+            (false, SymbolOrder::Size) => Kind::SizedSymbol,
+            (false, _) => Kind::ValuedSymbol,
         }
     }
 }
@@ -144,21 +134,6 @@ fn is_external(symbol: &Symbol) -> bool
     ensures { result ≡ is_external symbol.now }
 {
     symbol.st_bind() != abi::STB_LOCAL
-}
-
-fn letter_kind(class: Class, columns: Columns) -> Kind
-    ensures { result ≡ letter_kind class columns }
-{
-    match (class, columns) {
-        (Class::ELF32, Columns::Nothing) => Kind::Undefined32,
-        (Class::ELF64, Columns::Nothing) => Kind::Undefined64,
-        (Class::ELF32, Columns::Value) => Kind::Symbol32,
-        (Class::ELF64, Columns::Value) => Kind::Symbol64,
-        (Class::ELF32, Columns::Size) => Kind::Size32,
-        (Class::ELF64, Columns::Size) => Kind::Size64,
-        (Class::ELF32, Columns::Both) => Kind::SizedSymbol32,
-        (Class::ELF64, Columns::Both) => Kind::SizedSymbol64,
-    }
 }
 
 // A size of 0 is left out.

@@ -9,20 +9,20 @@ ghost use Rattle.nugwier_report.specs.Symbols.{form_view, is_data, is_export, is
 ghost use Rattle.nugwier_report.specs.Symbols.{order_of};
 ghost use Rattle.nugwier_report.specs.Symbols.{section_letter, shown_letter, st_shndx_name, symbol_kind, symbol_members};
 ghost use Rattle.nugwier_report.specs.Symbols.{symbol_said, table_name, undefined_letter, version_known, version_read};
-ghost use Rattle.nugwier_report.specs.Symbols.{weak_letter};
+ghost use Rattle.nugwier_report.specs.Symbols.{data_letter, has_flag, is_for_debugging, weak_letter};
 ghost use Rattle.nugwier_report.specs.Versions.{version_default, version_name, version_view};
 ghost use Rattle.nugwier_report.specs.declared.problem.Item.TheVariants.{SymbolName, SymbolVersion};
 
 use crate::json::{Member, Value};
 use crate::kind::Kind;
 use crate::problem::{Fault, Item, Part, Stop};
+use crate::properties::rest_of;
 use crate::report::Report;
 use crate::rows::Row;
 use crate::symbol_options::{SymbolOptions, SymbolOrder};
 use crate::versions::{ShownVersion, shown_version};
 use elf_abi::{abi, to_str};
 use elf_parts::endian::EndianParse;
-use elf_parts::file::Class;
 use elf_parts::gnu_symver::SymbolVersions;
 use elf_parts::section::SectionHeader;
 use elf_parts::string_table::TerminatedStrings;
@@ -93,9 +93,10 @@ pub enum Form<'a> {
     Fields,
     /// Its value and a letter, in the manner of `nm`.
     Letter {
-        class: Class,
         /// The sections that define symbols.
         sections: &'a [SectionHeader],
+        /// The strings that have the names of the sections.
+        names: &'a [u8],
         options: SymbolOptions,
     },
     /// Its name with its version alone, if the file defines it for others.
@@ -132,7 +133,7 @@ impl Form<'_> {
     {
         match self {
             Form::Fields => Kind::Symbol,
-            Form::Letter { class, options, .. } => options.kind(class, symbol),
+            Form::Letter { options, .. } => options.kind(symbol),
             Form::Export { .. } => Kind::Export,
         }
     }
@@ -142,7 +143,11 @@ impl Form<'_> {
         ensures { result ≡ shown_letter (form_view self.entry) symbol.now }
     {
         match self {
-            Form::Letter { sections, .. } => Some(letter_of(sections, symbol)),
+            Form::Letter {
+                sections,
+                names,
+                ..
+            } => Some(letter_of(sections, names, symbol)),
             Form::Fields | Form::Export { .. } => None,
         }
     }
@@ -262,8 +267,8 @@ fn special_section(st_shndx: u16) -> Option<&'static str>
 }
 
 // The letter of a symbol, as `nm` has it: in lower case if the symbol is local.
-fn letter_of(sections: &[SectionHeader], symbol: &Symbol) -> char
-    ensures { result ≡ letter_of sections.now symbol.now }
+fn letter_of(sections: &[SectionHeader], names: &[u8], symbol: &Symbol) -> char
+    ensures { result ≡ letter_of sections.now names.now symbol.now }
 {
     if symbol.st_shndx == abi::SHN_COMMON {
         return 'C';
@@ -280,7 +285,7 @@ fn letter_of(sections: &[SectionHeader], symbol: &Symbol) -> char
     if symbol.st_bind() == abi::STB_GNU_UNIQUE {
         return 'u';
     }
-    let letter = section_letter(sections, symbol.st_shndx);
+    let letter = section_letter(sections, names, symbol.st_shndx);
     if symbol.st_bind() == abi::STB_LOCAL {
         letter
     } else {
@@ -311,35 +316,65 @@ fn weak_letter(symbol: &Symbol) -> char
 }
 
 // The letter of what is in a section, or of an absolute value.
-fn section_letter(sections: &[SectionHeader], st_shndx: u16) -> char
-    ensures { result ≡ section_letter sections.now st_shndx }
+fn section_letter(sections: &[SectionHeader], names: &[u8], st_shndx: u16) -> char
+    ensures { result ≡ section_letter sections.now names.now st_shndx }
 {
     if st_shndx == abi::SHN_ABS {
         return 'a';
     }
     match sections.get(st_shndx as usize) {
-        Some(section) => letter_in(section),
+        Some(section) => letter_in(names, section),
         None => '?',
     }
 }
 
-// The letter of a section: of code, what is not loaded, data that is not in the file, data that can be written, and
-// data that cannot.
-fn letter_in(section: &SectionHeader) -> char
-    ensures { result ≡ letter_in section.now }
+// The letter of a section: of code, what has no bytes in the file, data that can be written, and data that cannot; of
+// what is not loaded, what a debugger reads, what can be written, and the rest.
+fn letter_in(names: &[u8], section: &SectionHeader) -> char
+    ensures { result ≡ letter_in names.now section.now }
 {
-    let flags = section.sh_flags;
-    if flags & abi::SHF_EXECINSTR as u64 != 0 {
+    if has_flag(abi::SHF_EXECINSTR, section) {
         't'
-    } else if flags & abi::SHF_ALLOC as u64 == 0 {
-        'n'
     } else if section.sh_type == abi::SHT_NOBITS {
         'b'
-    } else if flags & abi::SHF_WRITE as u64 != 0 {
+    } else if has_flag(abi::SHF_ALLOC, section) {
+        data_letter(section)
+    } else if is_for_debugging(rest_of(section.sh_name as usize, names)) {
+        'N'
+    } else if has_flag(abi::SHF_WRITE, section) {
+        '?'
+    } else {
+        'n'
+    }
+}
+
+fn has_flag(flag: u32, section: &SectionHeader) -> bool
+    ensures { result ≡ has_flag flag section.now }
+{
+    section.sh_flags & flag as u64 != 0
+}
+
+fn data_letter(section: &SectionHeader) -> char
+    ensures { result ≡ data_letter section.now }
+{
+    if has_flag(abi::SHF_WRITE, section) {
         'd'
     } else {
         'r'
     }
+}
+
+// Whether a name, with the strings after it, is that of a section for debuggers.
+fn is_for_debugging(name: &[u8]) -> bool
+    ensures { result ≡ is_for_debugging name.now }
+{
+    name.starts_with(b".debug")
+        || name.starts_with(b".zdebug")
+        || name.starts_with(b".gnu.debuglto_.debug_")
+        || name.starts_with(b".gnu.linkonce.wi.")
+        || name.starts_with(b".line")
+        || name.starts_with(b".stab")
+        || name.starts_with(b".gdb_index\0")
 }
 
 // Whether the symbol is a function, or unless only functions are asked for data, that this file defines for others.

@@ -9,6 +9,7 @@ ghost use Rattle.elfshow_lines.specs.Adding.{Adds};
 ghost use Rattle.nugwier_report.specs.Noted.{content_of, members_said};
 ghost use Rattle.nugwier_report.specs.Text.{all_digits, ascii, ascii_text, at_signs, bytes_in, cell, content_at, dump};
 ghost use Rattle.nugwier_report.specs.Text.{dump_address, dump_characters, dump_columns, dump_group, dump_line, is_mark};
+ghost use Rattle.nugwier_report.specs.Text.{look_of, room_of, shown_address};
 ghost use Rattle.nugwier_report.specs.Text.{count_left_out, front_of, index_number, left_out};
 ghost use Rattle.nugwier_report.specs.Text.{left_of, letters_of, nameless_number, nameless_signed, number_in, number_text};
 ghost use Rattle.nugwier_report.specs.Text.{other_flags};
@@ -22,6 +23,7 @@ use crate::escape::add_shown;
 use crate::json::{Member, Value};
 use elf_abi::abi;
 use elf_names::flags::{Flag, Flags, is_set};
+use elf_parts::file::Class;
 use elfshow_lines::line_buffer::LineBuffer;
 use std::io;
 use std::io::Write;
@@ -38,8 +40,10 @@ pub enum Shown {
     Digits,
     /// A number as 8 hexadecimal digits, or as 16 if it has more than 32 bits.
     Digits8,
-    /// A number as 16 hexadecimal digits.
-    Digits16,
+    /// A number as 16 hexadecimal digits; in a file of class `ELF32` as 8, or as 16 if it has more than 32 bits.
+    Address,
+    /// In place of a value, the 8 spaces by which the column of an address is wider in a file of class `ELF64`.
+    Room,
     /// A number with a sign, in decimal.
     Signed,
     /// The share of a number in the one at this place, in percent. A number above that one has none, nor has any of 0.
@@ -98,9 +102,19 @@ pub struct Style {
     pub is_bold: bool,
 }
 
-/// Writes the row of a record: this text, with a column in the place of each `%`. A heading may be bold.
+/// What the cells of a row depend on beside the record.
+#[derive(Debug, Clone, Copy)]
+pub(crate) struct Look {
+    /// Whether long bytes are shown as a whole.
+    pub is_wide: bool,
+    /// The class of the file, which gives the digits of its addresses.
+    pub class: Class,
+}
+
+/// Writes the row of a record of a file of this class: this text, with a column in the place of each `%`. A heading may be bold.
 pub fn write_row<W: Write>(
     style: Style,
+    class: Class,
     is_heading: bool,
     row: &str,
     columns: &[Column],
@@ -109,13 +123,17 @@ pub fn write_row<W: Write>(
 ) -> io::Result<()>
     ensures { OnOk result (Appends (W.contents out.old) (W.contents out.new)
         (bold_if (style.is_bold && is_heading)
-        (row_text style.is_wide (members_said members.now) row.now columns.now))) }
+        (row_text (look_of style class) (members_said members.now) row.now columns.now))) }
 {
+    let look = Look {
+        is_wide: style.is_wide,
+        class,
+    };
     let mut lines = LineBuffer::empty();
     if style.is_bold && is_heading {
-        add_bold(style.is_wide, row, columns, members, &mut lines, out);
+        add_bold(look, row, columns, members, &mut lines, out);
     } else {
-        add_cells(style.is_wide, row, columns, members, &mut lines, out);
+        add_cells(look, row, columns, members, &mut lines, out);
     }
     lines.end(out)
 }
@@ -123,7 +141,7 @@ pub fn write_row<W: Write>(
 // Adds a row between the escape sequences that begin and end bold text (ECMA-48, SGR).
 #[tactic(auto, unfolding(crate::specs::Text::framed))]
 fn add_bold<W: Write>(
-    is_wide: bool,
+    look: Look,
     row: &str,
     columns: &[Column],
     members: &[Member<'_>],
@@ -131,15 +149,15 @@ fn add_bold<W: Write>(
     out: &mut W,
 )
     ensures { Adds (W.contents out.old) lines.old (W.contents out.new) lines.new
-        (framed (row_text is_wide (members_said members.now) row.now columns.now)) }
+        (framed (row_text look (members_said members.now) row.now columns.now)) }
 {
     lines.text("\x1b[1m", out);
-    add_cells(is_wide, row, columns, members, lines, out);
+    add_cells(look, row, columns, members, lines, out);
     lines.text("\x1b[0m", out);
 }
 
 fn add_cells<W: Write>(
-    is_wide: bool,
+    look: Look,
     row: &str,
     columns: &[Column],
     members: &[Member<'_>],
@@ -147,13 +165,13 @@ fn add_cells<W: Write>(
     out: &mut W,
 )
     ensures { Adds (W.contents out.old) lines.old (W.contents out.new) lines.new
-        (row_text is_wide (members_said members.now) row.now columns.now) }
+        (row_text look (members_said members.now) row.now columns.now) }
 {
     let mut rest = row;
     for column in columns {
         let (before, after) = at_mark(rest);
         lines.text(before, out);
-        add_cell(is_wide, *column, members, lines, out);
+        add_cell(look, *column, members, lines, out);
         rest = after;
     }
     lines.text(rest, out);
@@ -171,17 +189,17 @@ fn at_mark(row: &str) -> (&str, &str)
 }
 
 fn add_cell<W: Write>(
-    is_wide: bool,
+    look: Look,
     column: Column,
     members: &[Member<'_>],
     lines: &mut LineBuffer,
     out: &mut W,
 )
     ensures { Adds (W.contents out.old) lines.old (W.contents out.new) lines.new
-        (cell is_wide (members_said members.now) column) }
+        (cell look (members_said members.now) column) }
 {
     let value = value_at(members, column.0);
-    add_value(is_wide, column.1, value, members, lines, out);
+    add_value(look, column.1, value, members, lines, out);
 }
 
 // The value of the member at a place.
@@ -195,7 +213,7 @@ fn value_at<'a>(members: &[Member<'a>], place: usize) -> Value<'a>
 }
 
 fn add_value<W: Write>(
-    is_wide: bool,
+    look: Look,
     form: Shown,
     value: Value<'_>,
     members: &[Member<'_>],
@@ -203,9 +221,11 @@ fn add_value<W: Write>(
     out: &mut W,
 )
     ensures { Adds (W.contents out.old) lines.old (W.contents out.new) lines.new
-        (shown is_wide form (content_of value.entry) (members_said members.now)) }
+        (shown look form (content_of value.entry) (members_said members.now)) }
 {
     match form {
+        Shown::Address => add_address_value(look.class, value, lines, out),
+        Shown::Room => lines.text(room_of(look.class), out),
         Shown::Addend(symbol) => add_addend(value, value_at(members, symbol), lines, out),
         Shown::Name(skipped, width, number) => {
             let number = value_at(members, number);
@@ -227,7 +247,7 @@ fn add_value<W: Write>(
         Shown::Signed => add_signed(value, lines, out),
         Shown::Percent(all) => add_share(value, value_at(members, all), lines, out),
         Shown::Pairs => lines.bytes("", bytes_in(value), out),
-        Shown::Front(most) => add_front_or_all(is_wide, most, bytes_in(value), lines, out),
+        Shown::Front(most) => add_front_or_all(look.is_wide, most, bytes_in(value), lines, out),
         Shown::Dump(address) => {
             let address = number_in(value_at(members, address));
             add_dump(address, bytes_in(value), lines, out);
@@ -255,6 +275,28 @@ fn number_in(value: Value<'_>) -> u64
     }
 }
 
+// ---- addresses
+
+fn add_address_value<W: Write>(class: Class, value: Value<'_>, lines: &mut LineBuffer, out: &mut W)
+    ensures { Adds (W.contents out.old) lines.old (W.contents out.new) lines.new
+        (shown_address class (content_of value.entry)) }
+{
+    match (value, class) {
+        (Value::Number(n), Class::ELF32) => add_wide(n, lines, out),
+        (Value::Number(n), Class::ELF64) => add_all_digits(n, lines, out),
+        _ => lines.text("-", out),
+    }
+}
+
+fn room_of(class: Class) -> &'static str
+    ensures { result.now ≡ room_of class }
+{
+    match class {
+        Class::ELF32 => "",
+        Class::ELF64 => "        ",
+    }
+}
+
 // ---- numbers
 
 fn add_number<W: Write>(form: Shown, value: Value<'_>, lines: &mut LineBuffer, out: &mut W)
@@ -274,7 +316,6 @@ fn add_digits<W: Write>(form: Shown, n: u64, lines: &mut LineBuffer, out: &mut W
         Shown::Decimal(width) => add_decimal(width, n, lines, out),
         Shown::Digits => lines.digits(n, out),
         Shown::Digits8 => add_wide(n, lines, out),
-        Shown::Digits16 => add_all_digits(n, lines, out),
         Shown::Order => add_order(n, lines, out),
         Shown::SectionFlags => add_flags(n, lines, out),
         Shown::SegmentFlags => add_segment_flags(n, lines, out),

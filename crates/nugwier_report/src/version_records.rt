@@ -13,6 +13,7 @@ use crate::json::{Member, Value, part_member};
 use crate::kind::Kind;
 use crate::problem::{Item, Part, Stop};
 use crate::report::Report;
+use elf_names::flags::version_flags;
 use elf_parts::endian::EndianParse;
 use elf_parts::gnu_symver::{
     VerDef, VerDefAux, VerDefAuxIterator, VerDefIterator, VerNeed, VerNeedAux, VerNeedAuxIterator,
@@ -74,12 +75,16 @@ fn say_definition<E: EndianParse, W: Write, V: Write>(
     report.state(Kind::VerdefEnd, &[])
 }
 
-fn definition_members(part: Part, definition: &VerDef) -> [Member<'static>; 5]
+fn definition_members(part: Part, definition: &VerDef) -> [Member<'static>; 6]
     ensures { members_said result ≡ definition_members part definition.now }
 {
     [
         part_member(part),
         ("vd_flags", Value::Number(definition.vd_flags as u64)),
+        (
+            "vd_flags_names",
+            Value::Flags(version_flags(), definition.vd_flags as u64),
+        ),
         ("vd_ndx", Value::Number(definition.vd_ndx as u64)),
         ("vd_cnt", Value::Number(definition.vd_cnt as u64)),
         ("vd_hash", Value::Number(definition.vd_hash as u64)),
@@ -187,6 +192,10 @@ fn say_version<W: Write, V: Write>(
         ("vn_file", Value::Number(file as u64)),
         ("vna_hash", Value::Number(version.vna_hash as u64)),
         ("vna_flags", Value::Number(version.vna_flags as u64)),
+        (
+            "vna_flags_names",
+            Value::Flags(version_flags(), version.vna_flags as u64),
+        ),
         ("vna_other", Value::Number(version.vna_other as u64)),
         ("vna_name", Value::Number(version.vna_name as u64)),
         ("name", Value::Text(name)),

@@ -172,6 +172,8 @@ parts_all is_listed = record {
   notes = is_listed;
   versions = is_listed;
   chains = is_listed;
+  attributes = is_listed;
+  debug_links = is_listed;
 }
 
 -- of one character
@@ -191,6 +193,8 @@ with_part parts letter =
     else if letter == code "n" then Some (record parts { notes = true })
     else if letter == code "V" then Some (record parts { versions = true })
     else if letter == code "I" then Some (record parts { chains = true })
+    else if letter == code "A" then Some (record parts { attributes = true })
+    else if letter == code "k" then Some (record parts { debug_links = true })
     else if letter == code "a" then Some (parts_all true)
     else None
 
@@ -453,7 +457,7 @@ with_search command asked word =
 unfoldable pub requirement_of : List ℕ → Option Requirement
 requirement_of word =
     find (λ r. bytes_eq (requirement_word r) word) (need.Pie ∷ need.Relro ∷ need.BindNow ∷ need.Nx
-    ∷ need.Canary ∷ need.Fortify ∷ need.Runpath ∷ need.Ibt ∷ need.Shstk ∷ need.Bti
+    ∷ need.Wx ∷ need.Canary ∷ need.Fortify ∷ need.Runpath ∷ need.Ibt ∷ need.Shstk ∷ need.Bti
     ∷ need.Pac ∷ need.Stripped ∷ [])
 
 -- those of words after these, if each word is one
@@ -587,7 +591,8 @@ AreAddresses answer (Err error) = (error ≡ Memory) ⊎ (answer ≡ Err error)
 abbrev pub has_part : Parts → Bool
 has_part parts =
     parts.header || parts.sections || parts.groups || parts.segments || parts.symbols || parts.dynamic_symbols
-    || parts.dynamic || parts.relocations || parts.notes || parts.versions || parts.chains
+    || parts.dynamic || parts.relocations || parts.notes || parts.versions || parts.chains || parts.attributes
+    || parts.debug_links
 
 abbrev pub listed_parts : Parts → List (Form × List ℕ) → Parts
 listed_parts parts contents = if length contents == 0 && not (has_part parts) then parts_all true else parts

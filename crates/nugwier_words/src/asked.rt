@@ -456,6 +456,7 @@ fn has_part(parts: Parts) -> bool
 {
     let headers = parts.header || parts.sections || parts.groups || parts.segments;
     let symbols = parts.symbols || parts.dynamic_symbols || parts.dynamic;
-    let others = parts.relocations || parts.notes || parts.versions || parts.chains;
-    headers || symbols || others
+    let lists = parts.relocations || parts.notes || parts.versions;
+    let others = parts.chains || parts.attributes || parts.debug_links;
+    headers || symbols || lists || others
 }

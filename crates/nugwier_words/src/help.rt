@@ -59,6 +59,8 @@ Lists the parts of a file that the options name; without options, all of -a.
   -n           the notes
   -V           the versions that the file defines, and those that it needs of other files
   -I           how long the chains of hash sections are
+  -A           the build attributes of Arm, RISC-V and GNU
+  -k           the links to files with debug information
   -a           all of these
   -x SECTION   the bytes of all sections of a name, or of the section of a number
   -p SECTION   the strings of all sections of a name, or of the section of a number
@@ -94,8 +96,8 @@ Letters may stand together, as in -gu. After -- each word is a file. A letter is
   R  data that is only read   U     an undefined symbol
   B  data without bytes       i     a function that is chosen when the file is loaded
   A  an absolute value        u     a unique symbol
-  C  a common symbol          N     of a section that is not loaded
-  ?  of no section";
+  C  a common symbol          N     of a section for debuggers, or a global one of another that is not loaded
+  ?  of no section, or of one that is written and not loaded";
 
 const NEEDED: &str = "\
 usage: nugwier needed [--json] [-R] FILE..
@@ -143,15 +145,15 @@ Prints how each file is hardened against attacks, in one line:
   fortified      how many functions of the C library it calls that check the size of their buffers
   fortifiable    how many it calls that do not and could
   rpath, runpath the folders in which libraries are looked for; unsafe if one is relative or empty
-  IBT, SHSTK, BTI, PAC, GCS
+  IBT, SHSTK, LAM_U48, LAM_U57, BTI, PAC, GCS
                  branch protection that all of its code has
   stripped       whether it has no table of symbols but that for dynamic linking
 
 A dash stands for what is not known, and for no path. Files have no headings.
 
-  --require LIST  tells what a file lacks of these, on standard error: pie, relro (full), bindnow, nx, canary, fortify,
-                  runpath (no unsafe folder), ibt, shstk, bti, pac, stripped; the words have commas between them. The
-                  list may also follow after =, as in --require=nx,pie";
+  --require LIST  tells what a file lacks of these, on standard error: pie, relro (full), bindnow, nx, wx (no segment is
+                  both), canary, fortify, runpath (no unsafe folder), ibt, shstk, bti, pac, stripped; the words have
+                  commas between them. The list may also follow after =, as in --require=nx,pie";
 
 const ADDRESS: &str = "\
 usage: nugwier address [--json] [-R] FILE [SECTION:]ADDRESS..

@@ -61,6 +61,8 @@ fn add_part(mut parts: Parts, letter: u8) -> Option<Parts>
         b'n' => parts.notes = true,
         b'V' => parts.versions = true,
         b'I' => parts.chains = true,
+        b'A' => parts.attributes = true,
+        b'k' => parts.debug_links = true,
         b'a' => parts = Parts::each(true),
         _ => return None,
     }

@@ -5,11 +5,12 @@ ghost use Rattle.std.specs.Prelude.{◌≡◌, IfOk, map};
 use nugwier_report::hardening::Requirement;
 use std::alloc::{AllocError, Global};
 
-static REQUIREMENTS: [Requirement; 12] = [
+static REQUIREMENTS: [Requirement; 13] = [
     Requirement::Pie,
     Requirement::Relro,
     Requirement::BindNow,
     Requirement::Nx,
+    Requirement::Wx,
     Requirement::Canary,
     Requirement::Fortify,
     Requirement::Runpath,

@@ -89,6 +89,8 @@ pub struct Parts {
     pub notes: bool,
     pub versions: bool,
     pub chains: bool,
+    pub attributes: bool,
+    pub debug_links: bool,
 }
 
 impl Parts {
@@ -108,6 +110,8 @@ impl Parts {
             notes: is_listed,
             versions: is_listed,
             chains: is_listed,
+            attributes: is_listed,
+            debug_links: is_listed,
         }
     }
 }

@@ -19,6 +19,7 @@ pub keeps_then : {E : Type 0} (old middle new : StreamView E) → Keeps old midd
 keeps_then old middle new a b = record {
   content = b.content ∙ a.content;
   can_fail = b.can_fail ∙ a.can_fail;
+  by_segments = b.by_segments ∙ a.by_segments;
   headers = b.headers ∙ a.headers;
   size = b.size ∙ a.size;
   cached = λ start end h. b.cached start end (a.cached start end h);

@@ -44,6 +44,7 @@ impl<E: EndianParse, S: StreamSource, A: Allocator + Copy> ElfStream<E, S, A> {
     {
         ElfStream {
             ehdr: self.ehdr,
+            by_segments: self.by_segments,
             declares_sections: self.declares_sections,
             shdrs: self.shdrs,
             phdrs: self.phdrs,

@@ -146,6 +146,9 @@ pub const COUNT_OF_VERSION_INDEXES: u32 = 614;
 /// Symbol `first` has an index that is that of no version.
 pub const UNKNOWN_VERSION_INDEX: u32 = 615;
 
+/// The index of symbol `first` is that of a definition and of a need.
+pub const AMBIGUOUS_VERSION_INDEX: u32 = 616;
+
 /// The segment is a second one of type `PT_INTERP`; `first` is the earlier one.
 pub const SECOND_INTERP: u32 = 701;
 

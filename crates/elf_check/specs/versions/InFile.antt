@@ -11,7 +11,7 @@ use Rattle.elf_records.specs.Table.{table_len}
 use Rattle.elf_parts.specs.gnu_symver.Records.{version_index_layout, version_index_reads}
 use Rattle.elf_parts.specs.gnu_symver.Table.{Versions}
 use Rattle.elf_check.specs.Chains.{IsTrueOfChain, total_extent}
-use Rattle.elf_check.specs.versions.Indexes.{IsFirstUnknown, SoundIndexes}
+use Rattle.elf_check.specs.versions.Indexes.{IsTrueOfFirst, SoundIndexes}
 use Rattle.elf_check.specs.versions.Records.{SoundDef, SoundDefs, SoundNeed, SoundNeeds, def_extent, def_links}
 use Rattle.elf_check.specs.versions.Records.{need_extent, need_links}
 use Rattle.elf.specs.Answers.{dynamic_symbol_table}
@@ -25,7 +25,6 @@ use Rattle.elf_check.specs.declared.faults.VersionsFault.TheVariants.{Definition
 use Rattle.elf_check.specs.declared.faults.VersionsFault.TheVariants.{FaultyNeeds}
 use Rattle.elf_check.specs.declared.faults.VersionsFault.TheVariants.{IndexesUnreadable, NeedsTooLong}
 use Rattle.elf_check.specs.declared.faults.VersionsFault.TheVariants.{NeedsUnreadable, NoDynamicSymbols, PartOfIndex}
-use Rattle.elf_check.specs.declared.faults.VersionsFault.TheVariants.{UnknownIndex}
 
 -- the bytes of a section, and those of the section that it links to
 abbrev pub with_strings : ObjectFile → SectionHeader → Result (List ℕ × List ℕ) ParseError
@@ -48,7 +47,7 @@ AreAsMany file versions =
 
 pub record SoundIndexesOf (file : ObjectFile) (versions : Versions) : Type 0 where
   pub many : AreAsMany file versions
-  pub known : SoundIndexes versions
+  pub each : SoundIndexes versions
 
 -- the bytes are a whole number of version indexes
 abbrev pub IsWhole : ObjectFile → SectionHeader → Type 0
@@ -105,8 +104,7 @@ IsTrueOfIndexes file versions NoDynamicSymbols = ¬ IsOkAnd (dynamic_symbol_tabl
 IsTrueOfIndexes file versions CountOfIndexes =
     IsOkAnd (dynamic_symbol_table file) (λ found. IsSomeAnd found (λ symbols.
     table_len symbol_reads symbols.0 ≢ table_len version_index_reads versions.indexes))
-IsTrueOfIndexes file versions (UnknownIndex symbol) = AreAsMany file versions × IsFirstUnknown versions symbol
-IsTrueOfIndexes file versions fault = ⊥
+IsTrueOfIndexes file versions fault = AreAsMany file versions × IsTrueOfFirst versions fault
 
 -- of a section of version indexes, whatever the needs and the definitions are: its size, whether it can be read, and
 -- then the indexes

@@ -1,58 +1,82 @@
 //! The check of version indexes.
-ghost use Rattle.std.specs.Prelude.{◌≡◌, ◌<◌, ◌↔◌, ℕ, Ok, IsOk, MatchOption, is_some};
+ghost use Rattle.std.specs.Prelude.{◌≡◌, ◌<◌, ◌≤◌, ◌↔◌, ℕ, Ok, IsOk, MatchOption, is_some};
 ghost use Rattle.elf_parts.specs.gnu_symver.Table.{index_of};
-ghost use Rattle.elf_check.specs.inner.Kept.{AreKnown};
-ghost use Rattle.elf_check.specs.versions.Indexes.{IsFirstUnknown, SoundIndexes, version_with_index};
+ghost use Rattle.elf_parts.specs.gnu_symver.VersionEntry.{defined_with, required_with};
+ghost use Rattle.elf_check.specs.inner.Kept.{AreSound};
+ghost use Rattle.elf_check.specs.versions.Indexes.{IsTrueOfFirst, SoundIndexes, count_with_index};
 
+use crate::faults::VersionsFault;
 use elf::endian::EndianParse;
 use elf::gnu_symver::{SymbolVersions, VersionIndex};
 
-// Whether the index of a symbol is that of a version.
-fn is_known<E: EndianParse, V: SymbolVersions<E>>(
+// Whether the file defines a version with the index of a symbol.
+fn is_defined<E: EndianParse, V: SymbolVersions<E>>(
     table: &V,
     symbol: usize,
-    index: VersionIndex,
+    index: &VersionIndex,
 ) -> bool
-    requires { index_of (V.versions table.now) symbol ≡ Ok index }
-    ensures { result ≡ is_some (version_with_index (V.versions table.now) index) }
+    requires { index_of (V.versions table.now) symbol ≡ Ok index.now }
+    ensures { result ≡ is_some (defined_with (V.versions table.now).definitions index.now) }
+{
+    !matches!(table.get_definition(symbol), Ok(None))
+}
+
+// Whether the file needs a version with the index of a symbol.
+fn is_needed<E: EndianParse, V: SymbolVersions<E>>(
+    table: &V,
+    symbol: usize,
+    index: &VersionIndex,
+) -> bool
+    requires { index_of (V.versions table.now) symbol ≡ Ok index.now }
+    ensures { result ≡ is_some (required_with (V.versions table.now).needs index.now) }
+{
+    !matches!(table.get_requirement(symbol), Ok(None))
+}
+
+// How many versions have the index of a symbol.
+fn count_with_index<E: EndianParse, V: SymbolVersions<E>>(
+    table: &V,
+    symbol: usize,
+    index: &VersionIndex,
+) -> usize
+    requires { index_of (V.versions table.now) symbol ≡ Ok index.now }
+    ensures count { result ≡ count_with_index (V.versions table.now) index.now }
+    ensures most { result ≤ 2 }
 {
     if index.index() == 0 || index.index() == 1 {
-        return true;
+        return 1;
     }
-    match table.get_definition(symbol) {
-        Ok(None) => match table.get_requirement(symbol) {
-            Ok(None) => false,
-            _ => true,
-        },
-        _ => true,
-    }
+    let is_defined = is_defined::<E, V>(table, symbol, index);
+    let is_needed = is_needed::<E, V>(table, symbol, index);
+    is_defined as usize + is_needed as usize
 }
 
 // How many numbers of versions are kept.
 const KEPT: usize = 64;
 
-// The same. A number that is kept was known, and is not looked up again.
-fn is_kept_or_known<E: EndianParse, V: SymbolVersions<E>>(
+// The same. One version has a number that is kept, and it is not looked up again.
+fn count_with_kept<E: EndianParse, V: SymbolVersions<E>>(
     table: &V,
     symbol: usize,
-    index: VersionIndex,
+    index: &VersionIndex,
     kept: &mut [u16],
-) -> bool
-    requires index { index_of (V.versions table.now) symbol ≡ Ok index }
-    requires known { AreKnown (V.versions table.now) kept.old }
-    ensures value { result ≡ is_some (version_with_index (V.versions table.now) index) }
-    ensures known { AreKnown (V.versions table.now) kept.new }
+) -> usize
+    requires index { index_of (V.versions table.now) symbol ≡ Ok index.now }
+    requires sound { AreSound (V.versions table.now) kept.old }
+    ensures count { result ≡ count_with_index (V.versions table.now) index.now }
+    ensures most { result ≤ 2 }
+    ensures sound { AreSound (V.versions table.now) kept.new }
 {
     let number = index.0;
     let place = number as usize % KEPT;
     if place < kept.len() && kept[place] == number {
-        return true;
+        return 1;
     }
-    let is_known = is_known::<E, V>(table, symbol, index);
-    if is_known && place < kept.len() {
+    let count = count_with_index::<E, V>(table, symbol, index);
+    if count == 1 && place < kept.len() {
         kept[place] = number;
     }
-    is_known
+    count
 }
 
 // The index of a symbol below their number.
@@ -68,19 +92,21 @@ fn index_below<E: EndianParse, V: SymbolVersions<E>>(
     table.get_index(symbol).unwrap()
 }
 
-/// The first symbol whose version index is that of no version.
-pub(super) fn first_unknown<E: EndianParse, V: SymbolVersions<E>>(
+/// The fault of the first symbol whose version index is not that of exactly one version.
+pub(super) fn first_fault<E: EndianParse, V: SymbolVersions<E>>(
     table: &V,
     symbols: usize,
-) -> Option<usize>
+) -> Option<VersionsFault>
     requires { (i : ℕ) → IsOk (index_of (V.versions table.now) i) ↔ (i < symbols) }
-    ensures { MatchOption result (SoundIndexes (V.versions table.now)) (IsFirstUnknown (V.versions table.now)) }
+    ensures { MatchOption result (SoundIndexes (V.versions table.now)) (IsTrueOfFirst (V.versions table.now)) }
 {
     let mut kept = [0; KEPT];
     for symbol in 0..symbols {
         let index = index_below::<E, V>(table, symbol, symbols);
-        if !is_kept_or_known::<E, V>(table, symbol, index, &mut kept) {
-            return Some(symbol);
+        match count_with_kept::<E, V>(table, symbol, &index, &mut kept) {
+            0 => return Some(VersionsFault::UnknownIndex { symbol }),
+            1 => {}
+            _ => return Some(VersionsFault::AmbiguousIndex { symbol }),
         }
     }
     None

@@ -22,7 +22,7 @@ pub enum WholeVersion<'data, E: EndianParse> {
     Local,
     /// The symbol has no version: its index is 1.
     Global,
-    /// The version that another file must have, if the file does not define one with the same index.
+    /// The version that another file must have.
     Required(SymbolRequirement<'data>),
     /// The version with which the symbol is defined. Each of its names is text.
     Defined(WholeDefinition<'data, E>),

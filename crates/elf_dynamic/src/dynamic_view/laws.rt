@@ -17,8 +17,8 @@ pub fn part_view_as_whole()
         → FollowsWhole is_missing whole (loaded whole range) }
 {}
 
-/// States that the symbols and their strings are those of `dynamic_symbol_table`, if the file has sections of both that
-/// lie where its segments say.
+/// States that the symbols and their strings are those of `dynamic_symbol_table`, if the file has sections of both at
+/// the offsets that its segments give.
 pub fn symbols_as_by_sections()
     ensures { (x : Extent) (file : FileOf x) (entries : List Dyn) (s linked : SectionHeader)
         → SectionsAgree file entries s linked

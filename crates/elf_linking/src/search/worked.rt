@@ -1,8 +1,8 @@
 //! The definitions at known values.
 ghost use Rattle.std.specs.Prelude.{◌≡◌, ◌∷◌, [], codes};
-ghost use Rattle.elf_linking.specs.KnownObjects.{no_others, others, program, tokens, with_both, with_rpath};
+ghost use Rattle.elf_linking.specs.KnownObjects.{for_processor, no_others, others, program, tokens, with_both, with_rpath};
 ghost use Rattle.elf_linking.specs.KnownObjects.{without_cache, without_paths, without_usual};
-ghost use Rattle.elf_linking.specs.Search.{candidates, expansion, folders_in};
+ghost use Rattle.elf_linking.specs.Search.{candidates, expansion, folders_in, with_hwcaps};
 ghost use Rattle.elf_linking.specs.declared.search.Separators.TheVariants.{Colons, ColonsAndSemicolons};
 
 /// `$ORIGIN`, `$LIB` and `$PLATFORM` are replaced wherever they occur, also in braces. A longer name, an open brace and
@@ -35,7 +35,8 @@ pub fn search_paths()
 /// The folders of DT_RPATH come first: those of the object, and then those of its loaders up to the program, except of a
 /// loader with DT_RUNPATH. If the object has DT_RUNPATH they do not count, and the folders of DT_RUNPATH come after
 /// LD_LIBRARY_PATH. The folder of the program stands for $ORIGIN in LD_LIBRARY_PATH. The path that the cache has for a name
-/// comes before the usual folders, and so do the folders that count in place of a cache. A name with a slash is a path. For
+/// comes before the usual folders, and so do the folders that count in place of a cache. Before each folder come its
+/// subfolders for the processor. A name with a slash is a path. For
 /// an object with DF_1_NODEFLIB neither the usual folders count, nor what is below them.
 pub fn places_of_a_library()
     ensures rpath { candidates with_rpath (program ∷ []) others (codes "n")
@@ -52,6 +53,12 @@ pub fn places_of_a_library()
         ≡ codes "/w/e/n" ∷ codes "/lib/n" ∷ codes "/usr/lib/n" ∷ [] }
     ensures listed { candidates without_paths [] without_cache (codes "n") ≡ codes "/w/e/n" ∷ codes "/opt/x/n"
         ∷ codes "/lib/x/n" ∷ codes "/lib/n" ∷ codes "/lib64/n" ∷ codes "/lib/n" ∷ codes "/usr/lib/n" ∷ [] }
+    ensures subfolders { candidates with_both (program ∷ []) for_processor (codes "c")
+        ≡ codes "/p/e/glibc-hwcaps/b/c" ∷ codes "/p/e/glibc-hwcaps/a/c" ∷ codes "/p/e/c"
+        ∷ codes "/m1/glibc-hwcaps/b/c" ∷ codes "/m1/glibc-hwcaps/a/c" ∷ codes "/m1/c" ∷ codes "/opt/c"
+        ∷ codes "/lib/glibc-hwcaps/b/c" ∷ codes "/lib/glibc-hwcaps/a/c" ∷ codes "/lib/c"
+        ∷ codes "/usr/lib/glibc-hwcaps/b/c" ∷ codes "/usr/lib/glibc-hwcaps/a/c" ∷ codes "/usr/lib/c" ∷ [] }
+    ensures current { with_hwcaps (codes "b" ∷ []) [] ≡ codes "./glibc-hwcaps/b" ∷ [] ∷ [] }
     ensures nodeflib { candidates without_usual [] others (codes "c") ≡ codes "/n/e/c" ∷ codes "/opt/c" ∷ [] }
     ensures nodeflib_below { candidates without_usual [] others (codes "d") ≡ codes "/n/e/d" ∷ [] }
     ensures nodeflib_listed { candidates without_usual [] without_cache (codes "c")

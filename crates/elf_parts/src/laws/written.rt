@@ -160,9 +160,9 @@ pub fn words_are_read_back()
 /// of its fields, and each place in the field table is the sum of the widths before it.
 #[tactic(auto, using(crate::proofs::ReadStructs::tail_read_back, crate::proofs::ReadStructs::tail_long))]
 pub fn tails_are_read_back<E>()
-    ensures value { (little : E → Bool) (x : IsFileHeader E) (behind : List ℕ) → Fits (tail_struct x.class x) →
+    ensures value { (little : E → Bool) (x : IsFileHeader E) (after : List ℕ) → Fits (tail_struct x.class x) →
         header_with_tail little (x.endianness, x.class, x.osabi, x.abiversion)
-        (struct_bytes (little x.endianness) (tail_struct x.class x) ++ behind) ≡ Ok x }
+        (struct_bytes (little x.endianness) (tail_struct x.class x) ++ after) ≡ Ok x }
     ensures size { (little : E → Bool) (x : IsFileHeader E) →
         length (struct_bytes (little x.endianness) (tail_struct x.class x)) ≡ size_of (tail_fields x.class) }
     ensures places { (class : Class) → PlacesAreSums (tail_fields class) }
@@ -174,8 +174,8 @@ pub fn tails_are_read_back<E>()
 /// within it as the rest of it. Only what is read must have no 0 byte: a string ends at its first.
 #[tactic(auto, using(crate::proofs::ReadStrings::name_read_back))]
 pub fn names_are_read_back()
-    ensures { (before behind : List (List ℕ)) (head text rest : List ℕ) → HasNoNul text →
-        string_at (strings_of (before ++ (head ++ text) ∷ behind) ++ rest) (length (strings_of before) + length head)
+    ensures { (before after : List (List ℕ)) (head text rest : List ℕ) → HasNoNul text →
+        string_at (strings_of (before ++ (head ++ text) ∷ after) ++ rest) (length (strings_of before) + length head)
         ≡ Ok text }
 {}
 

@@ -1,5 +1,5 @@
 -- Steps of an opening, which the contracts of private functions cite.
-use Rattle.std.specs.Prelude.{ℕ, ◌-◌, Bool, List, [], take, drop, Option, None, Some, Result}
+use Rattle.std.specs.Prelude.{ℕ, ◌-◌, Bool, List, [], take, drop, Option, None, Some, Result, Ok}
 use Rattle.elf_abi.specs.Values.{ei_nident}
 use Rattle.elf_records.specs.File.{Ident, header_with_tail, ident_of, tail_fields}
 use Rattle.elf_records.specs.Number.{bytes_at}
@@ -7,6 +7,7 @@ use Rattle.elf_records.specs.Record.{◌>>=◌, RecordType, size_of}
 use Rattle.elf_records.specs.declared.file.FileHeader.{FileHeader}
 use Rattle.elf_records.specs.Table.{Table, table_in, table_items}
 use Rattle.elf_records.specs.declared.parse.ParseError.{ParseError}
+use Rattle.elf_reading.specs.Opening.{FileView, segment_table}
 
 -- the identification in the first sixteen bytes
 abbrev pub front_ident : {E : Type 0} → (ℕ → Option E) → List ℕ → Result (Ident E) ParseError
@@ -29,3 +30,10 @@ range_table little h bytes range = table_in (little h.endianness) h.class (range
 abbrev pub range_records : {A : Type 0} → RecordType A → Option Table → List A
 range_records reads None = []
 range_records reads (Some t) = table_items reads t
+
+-- the file with this header and these section headers, whose program headers are found
+abbrev pub opened_with :
+    {E : Type 0} → (E → Bool) → FileHeader E → Option Table → List ℕ → Result (FileView E) ParseError
+opened_with little h sections bytes =
+    segment_table little h bytes >>= λ segments.
+    Ok (record { ehdr = h; bytes = bytes; sections = sections; segments = segments })

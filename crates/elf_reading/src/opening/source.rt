@@ -1,16 +1,16 @@
 //! A file in a source: its headers are read. Memory is allocated only for tables that lie in the source.
 ghost use Rattle.std.specs.Prelude.{◌≡◌, ℕ, ◌≤◌, Bool, List, Ok, IfOk, IfErr, IfSome, length};
 ghost use Rattle.std.specs.Option.{option_map};
-ghost use Rattle.elf_reading.specs.Opening.{first_section, header_at_front, headers_of, opened_file, read_headers};
-ghost use Rattle.elf_reading.specs.Opening.{section_table, segment_table, table_bytes};
+ghost use Rattle.elf_reading.specs.Opening.{first_section, header_at_front, headers_of, opened_by_segments};
+ghost use Rattle.elf_reading.specs.Opening.{opened_file, read_headers, section_table, segment_table, table_bytes};
 ghost use Rattle.elf_records.specs.File.{tail_fields};
 ghost use Rattle.elf_records.specs.Number.{bytes_at, ok_map};
 ghost use Rattle.elf_records.specs.Record.{size_by, size_of};
 ghost use Rattle.elf_records.specs.Section.{section_header_layout};
 ghost use Rattle.elf_records.specs.Table.{table_items, table_view};
 ghost use Rattle.elf_reading.specs.Refusals.{IsAnswer, IsNoAllocationFailure, IsOpeningOf, kind};
-ghost use Rattle.elf_reading.specs.inner.HeaderSteps.{front_ident, range_bytes, range_records, range_table};
-ghost use Rattle.elf_reading.specs.inner.HeaderSteps.{tail_header};
+ghost use Rattle.elf_reading.specs.inner.HeaderSteps.{front_ident, opened_with, range_bytes, range_records};
+ghost use Rattle.elf_reading.specs.inner.HeaderSteps.{range_table, tail_header};
 ghost use Rattle.elf_reading.specs.inner.Reads.{HasLength, ReadsSource, ReadsSourceAs};
 ghost use Rattle.elf_reading.specs.Tables.{declared_count, declared_table};
 
@@ -281,6 +281,35 @@ pub struct SourceHeaders<E: EndianParse, A: Allocator + Copy> {
     pub len: u64,
 }
 
+// Reads the program headers of a file whose header was read, and its section headers, which are in this range.
+fn read_tables<E: EndianParse, S: StreamSource, A: Allocator + Copy>(
+    alloc: A,
+    source: &mut S,
+    len: u64,
+    ehdr: FileHeader<E>,
+    sections: Option<(u64, u64)>,
+) -> Result<SourceHeaders<E, A>, ParseError>
+    requires whole { HasLength S.StreamSource source.old len }
+    requires within { IfSome sections (λ range. (range.0 ≤ range.1) × (range.1 ≤ len)) }
+    ensures content { S.content source.new ≡ S.content source.old }
+    ensures nature { S.can_fail source.new ≡ S.can_fail source.old }
+    ensures length { IfOk result (λ found. HasLength S.StreamSource source.new found.len) }
+    ensures opening { IfSome (S.content source.old) (λ bytes. IsOpeningOf read_headers
+        (ok_map headers_of (opened_with E.little ehdr (option_map (range_table E.little ehdr bytes) sections) bytes))
+        (S.can_fail source.old) (S.failures source.old) (S.failures source.new) result) }
+{
+    let segments = locate_phdrs(source, len, &ehdr)?;
+    let shdrs = read_records(alloc, source, &ehdr, sections)?;
+    let phdrs = read_records(alloc, source, &ehdr, segments)?;
+    Ok(SourceHeaders {
+        ehdr,
+        declares_sections: sections.is_some(),
+        shdrs,
+        phdrs,
+        len,
+    })
+}
+
 /// Reads the header of a file and the two tables that it declares (gABI, chapters "ELF Header", "Sections" and "Program
 /// Header"). Allocates memory for the two tables only, and only if both lie in the source.
 ///
@@ -301,14 +330,28 @@ pub fn open_source<E: EndianParse, S: StreamSource, A: Allocator + Copy>(
     let len = source.seek_end()?;
     let ehdr = read_ehdr(source, len)?;
     let sections = locate_shdrs(source, len, &ehdr)?;
-    let segments = locate_phdrs(source, len, &ehdr)?;
-    let shdrs = read_records(alloc, source, &ehdr, sections)?;
-    let phdrs = read_records(alloc, source, &ehdr, segments)?;
-    Ok(SourceHeaders {
-        ehdr,
-        declares_sections: sections.is_some(),
-        shdrs,
-        phdrs,
-        len,
-    })
+    read_tables(alloc, source, len, ehdr, sections)
+}
+
+/// Reads the header of a file and its program headers alone, as the dynamic linker does (gABI, chapter "Program
+/// Header"). So a file whose section headers cannot be read still has its header and its segments; it declares no
+/// section headers. Allocates memory for the program headers only, and only if they lie in the source.
+///
+/// If the content of the source is known, the headers are those that `open_by_segments` finds in it. Returns an error if
+/// that returns one. Otherwise the error is `IOError`, only if the source can fail, or `OutOfMemory` (tested, not proved:
+/// only if an allocation failed); of a file that `open_by_segments` does not open it is never `OutOfMemory`.
+pub fn open_source_by_segments<E: EndianParse, S: StreamSource, A: Allocator + Copy>(
+    alloc: A,
+    source: &mut S,
+) -> Result<SourceHeaders<E, A>, ParseError>
+    ensures content { S.content source.new ≡ S.content source.old }
+    ensures nature { S.can_fail source.new ≡ S.can_fail source.old }
+    ensures length { IfOk result (λ found. HasLength S.StreamSource source.new found.len) }
+    ensures opening { IfSome (S.content source.old) (λ bytes. IsOpeningOf read_headers
+        (ok_map headers_of (opened_by_segments E.little E.of_byte bytes)) (S.can_fail source.old)
+        (S.failures source.old) (S.failures source.new) result) }
+{
+    let len = source.seek_end()?;
+    let ehdr = read_ehdr(source, len)?;
+    read_tables(alloc, source, len, ehdr, None)
 }

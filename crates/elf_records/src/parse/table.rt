@@ -85,7 +85,7 @@ pub fn read_quickly<P: ParseAt>(little: bool, class: Class, offset: usize, data:
     }
 }
 
-/// Reads a record in the little order or in the big one. The error, and where it leaves the offset, are those of the
+/// Reads a record in the little order or in the big one. The error, and the offset after it, are those of the
 /// record's own read.
 // Inlined, so no room for an error is filled at each read.
 #[inline(always)]
@@ -97,7 +97,7 @@ pub fn read_record<P: ParseAt>(
 ) -> Result<P, ParseError>
     ensures value { result ≡ P.reads.record_at little class «data».now offset.old }
     ensures moved { offset.new ≡ P.reads.offset_after little class «data».now offset.old }
-    ensures behind { OnOk result (offset.new ≡ offset.old + P.reads.size class) }
+    ensures after { OnOk result (offset.new ≡ offset.old + P.reads.size class) }
 {
     match read_quickly(little, class, *offset, data) {
         Some(record) => {

@@ -14,8 +14,10 @@ use Rattle.nugwier_listing.specs.declared.job.JobTables.TheVariants.{Needed, Not
 use Rattle.nugwier_listing.specs.declared.list.ListTables.{ListTables}
 use Rattle.nugwier_listing.specs.declared.list.PartTables.{PartTables}
 use Rattle.nugwier_listing.specs.declared.list.PartTables.TheVariants as part
+use Rattle.nugwier_listing.specs.inner.Attributes.{part_said as attributes_said}
 use Rattle.nugwier_listing.specs.inner.Chains.{part_said as chains_said}
 use Rattle.nugwier_listing.specs.inner.Contents.{part_said as content_said}
+use Rattle.nugwier_listing.specs.inner.DebugLinks.{part_said as debug_links_said}
 use Rattle.nugwier_listing.specs.inner.Dynamic.{entries_said, needed_said}
 use Rattle.nugwier_listing.specs.inner.Groups.{tables_said as groups_said}
 use Rattle.nugwier_listing.specs.inner.Hardening.{tables_said as hardening_said}
@@ -40,6 +42,8 @@ module _ {E : Type 0} (little : E → Bool) where
   part_said (part.Notes t) = flat_map notes_said t.items
   part_said (part.Versions t) = flat_map versions_said t.items
   part_said (part.Chains t) = flat_map chains_said t.items
+  part_said (part.Attributes t) = flat_map attributes_said t.items
+  part_said (part.DebugLinks t) = flat_map debug_links_said t.items
 
   unfoldable pub list_said : ListTables E → List Said
   list_said t = flat_map part_said t.parts.items ++ flat_map content_said t.contents.items

@@ -1,6 +1,8 @@
 use Rattle.elf.proofs.Calls.{calls_alike}
+use Rattle.elf.proofs.Same.{list_answers}
 use Rattle.elf.proofs.readers.calls_answer_alike.Goals as goal
 
 pub returns : goal.returns
-returns g c = λ bytes v s calls read content headers made.
-    calls_alike g.E.EndianParse.little bytes v (λ header s shown. c.list_answers_as_table.ensures bytes v header s read shown) s calls content headers made
+returns g c = λ bytes v s calls by_segments read content headers made.
+    let little = g.E.EndianParse.little in
+    calls_alike little bytes v (λ header s shown. list_answers c.list_is_what_get_gives.ensures little g.E.EndianParse.of_byte by_segments bytes v header s read shown) s calls content headers made

@@ -1,4 +1,4 @@
-use Rattle.std.proofs.Common.{rules, ap, sym, ◌∙◌}
+use Rattle.std.proofs.Common.{rules}
 use Rattle.nugwier_programs.proofs.Texts.{no_text, text}
 use Rattle.nugwier_commands.proofs.archive.member_path.Goals as goal
 

@@ -1,4 +1,4 @@
-use Rattle.std.proofs.Common.{◌≡◌, ℕ, List, Option, Some, None, Result, Ok, Err, IfOk, IfSome, Bool, subst}
+use Rattle.std.proofs.Common.{◌≡◌, ℕ, List, Option, Some, None, IfSome, Bool, subst}
 use Rattle.std.proofs.lemmas.Result.{IfOk-weaker}
 use Rattle.elf.specs.ElfStream.{Keeps, StreamView}
 use Rattle.elf.specs.Loaded.{streamed_file}

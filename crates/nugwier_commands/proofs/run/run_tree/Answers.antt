@@ -1,4 +1,4 @@
-use Rattle.std.proofs.Common.{◌≡◌, ◌++◌, ℕ, List}
+use Rattle.std.proofs.Common.{◌++◌, List}
 use Rattle.std.proofs.lemmas.Result.{IfOk-weaker}
 use Rattle.elf_linking.specs.Tree.{found_view}
 use Rattle.nugwier_commands.specs.Run.{IsProgramSaid, IsSaidAt, IsWritten, Written, heading_said, search_of}

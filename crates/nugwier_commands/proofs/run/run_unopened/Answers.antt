@@ -1,4 +1,4 @@
-use Rattle.std.proofs.Common.{◌≡◌, Bool, true, false, [], ◌∷◌, refl, sym, ◌∙◌}
+use Rattle.std.proofs.Common.{◌≡◌, true, false, [], ◌∷◌, refl, sym, ◌∙◌}
 use Rattle.elf_reading.specs.Opening.{opened_by_segments}
 use Rattle.elf_records.specs.Endian.{any_is_little, any_of_byte}
 use Rattle.nugwier_commands.proofs.Lifting.{as_problem}

@@ -1,4 +1,4 @@
-use Rattle.std.proofs.Common.{◌≡◌, ◌+◌, ap, arith}
+use Rattle.std.proofs.Common.{◌+◌, ap, arith}
 use Rattle.nugwier_report.proofs.Strings.{after_other, after_zero}
 use Rattle.nugwier_report.proofs.contents.say_strings.Goals.{then-byte-eq0+in_ok-say_string, else-byte-eq0}
 use Rattle.nugwier_report.proofs.contents.say_strings.Goals as goal

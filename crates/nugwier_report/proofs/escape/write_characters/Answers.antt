@@ -1,4 +1,4 @@
-use Rattle.std.proofs.Common.{List, [], ℕ, length, ◌≡◌, ◌∷◌, ap, arith, refl, rules, ◌∙◌}
+use Rattle.std.proofs.Common.{List, [], ℕ, length, ◌≡◌, ◌∷◌, ap, arith, rules, ◌∙◌}
 use Rattle.std.proofs.lemmas.Str.{IsUtf8-past_char, chars-nil}
 use Rattle.std.specs.List.{flat_map}
 use Rattle.std.specs.Str.{chars}

@@ -1,4 +1,4 @@
-use Rattle.std.proofs.Common.{ap, drop, get_or, refl, rules}
+use Rattle.std.proofs.Common.{ap, get_or, rules}
 use Rattle.std.proofs.lemmas.List.{drop_all, drop_more}
 use Rattle.std.specs.List.{flat_map}
 use Rattle.nugwier_report.specs.Escape.{escaped_byte}

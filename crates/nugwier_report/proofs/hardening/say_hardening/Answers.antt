@@ -1,4 +1,4 @@
-use Rattle.std.proofs.Common.{◌≡◌, ◌++◌, ◌∷◌, [], List, ap, append_assoc, ◌∙◌}
+use Rattle.std.proofs.Common.{◌∷◌, [], List, ap, append_assoc, ◌∙◌}
 use Rattle.std.proofs.lemmas.Result.{on_ok_weaker}
 use Rattle.nugwier_report.specs.Hardening.{hardening_members, paths_view, row_members}
 use Rattle.nugwier_report.specs.Said.{Members, Said, Telling, saying, states}

@@ -9,7 +9,7 @@ use Rattle.nugwier_report.proofs.text.add_cells.Given as goal
 -- what was added so far, and then what is left of the row, is the whole row
 abbrev pub invariant-loop-column : goal.invariant-loop-column
 invariant-loop-column g l =
-    let text = row_text l.is_wide (members_said l.members) in
+    let text = row_text l.look (members_said l.members) in
     Leads (g.W.Write.contents l.initial.out) l.initial.lines (g.W.Write.contents l.out) l.lines
     (text l.rest (drop l.column-index l.columns)) (text l.row l.columns)
     × shadow (Utf8 l.rest)

@@ -11,6 +11,7 @@ returns g c =
       content = g.S.StreamSource.content stream.source;
       can_fail = g.S.StreamSource.can_fail stream.source;
       failures = g.S.StreamSource.failures stream.source;
+      by_segments = stream.by_segments;
       headers = record {
         ehdr = stream.ehdr;
         declares_sections = stream.declares_sections;

@@ -31,6 +31,7 @@ returns-clause-keeps g c =
     rw (← c.self.view_is) record {
       content = c.fetch.ensures.content;
       can_fail = c.fetch.ensures.nature;
+      by_segments = refl;
       headers = refl;
       size = refl;
       cached = cached_put c.self.inside.cache c.put.new.self (record { start = c.args.start; bytes = c.in_ok-bytes.bytes.items }) c.put.result c.put.ensures.put (c.put.ensures.refused (omega (arith, c.in-Some.ensures, c.in_ok-bytes.ensures.len)));

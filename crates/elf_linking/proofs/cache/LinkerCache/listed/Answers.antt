@@ -10,5 +10,5 @@ pub returns : goal.returns
 returns c =
     let cache = cache_view c.args.self.now in
     let all = entries_of cache in
-    sym (option_map_id c.find.result) ∙ find_from_yields_List {s = c.iter.result} {all = all} (lists cache.bytes (flags_view c.args.flags.now) c.args.name.now) c.find.new.self _ c.find.result c.find.ensures.ran
+    sym (option_map_id c.find.result) ∙ find_from_yields_List {s = c.iter.result} {all = all} (lists cache.bytes (flags_view c.args.flags.now) c.args.place c.args.name.now) c.find.new.self _ c.find.result c.find.ensures.ran
     (YieldsList-from_first (λ x. x) (items_left entry_reads) {s = c.iter.result} all c.iter.ensures.items) (λ x b q k. search (rules, tests))

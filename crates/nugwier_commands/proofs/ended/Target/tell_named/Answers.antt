@@ -1,4 +1,4 @@
-use Rattle.std.proofs.Common.{List, ap, append_assoc, ◌++◌, ◌∙◌, subst}
+use Rattle.std.proofs.Common.{List, ap, append_assoc, ◌∙◌, subst}
 use Rattle.std.proofs.lemmas.Result.{on_ok_weaker}
 use Rattle.elf_linking.specs.Tree.{found_view}
 use Rattle.nugwier_commands.specs.Run.{heading_said}

@@ -1,16 +1,18 @@
-use Rattle.std.proofs.Common.{◌&&◌, Bool, List, ℕ, ap, refl, subst, sym}
-use Rattle.nugwier_report.specs.Labels.{named_by}
-use Rattle.nugwier_report.specs.Problems.{IsTextOf}
-use Rattle.nugwier_report.proofs.Telling.{Told, holds_wrong, holds_wrong_lost, told_wrong}
+use Rattle.std.proofs.Common.{◌≡◌, ◌∙◌, ◌&&◌, ℕ, Bool, List, Option, ap, refl, string_bytes, subst, sym}
+use Rattle.nugwier_report.specs.Labels.{label_of, named_by}
+use Rattle.nugwier_report.specs.Noted.{member_said}
+use Rattle.nugwier_report.specs.Problems.{IsTextAt, problem_line}
+use Rattle.nugwier_report.specs.Said.{Content, Said, wrong}
+use Rattle.nugwier_report.specs.Told.{IsLine, IsToldLine, place_member, problem_record}
+use Rattle.nugwier_report.proofs.Telling.{told_more, written_more, wrong_then}
 use Rattle.nugwier_report.proofs.report.Report.problem.Goals as goal
 
 pub invariant_of-self : goal.invariant_of-self
 invariant_of-self g c =
-    let contents = g.W.Write.contents in
     let r = c.self.inside in
     let log = c.then-self-inside in
-    let lost = holds_wrong_lost r.format r.path.now (contents log.result.start) (contents c.flush.new.self) r.log.said _ c.args.place c.args.fault log.ensures.1 in
-    (lost.0, lost.1, λ kept. cc)
+    let said : Said = wrong c.args.place c.args.fault in
+    (λ kept. cc, wrong_then r.log.said _ said log.ensures.1 refl, λ kept. cc)
 
 pub invariant_of-self-2 : goal.invariant_of-self-2
 invariant_of-self-2 g c =
@@ -19,10 +21,19 @@ invariant_of-self-2 g c =
     let r = c.self.inside in
     let held = c.self.invariant in
     let log = c.then-self-inside in
-    let holds = holds_wrong r.is_lost r.format r.path.now (contents r.log.start) (contents log.result.start) (contents r.out) (contents c.flush.new.self) r.is_right r.log.said _ c.args.place c.args.fault (held.0, held.1) (ap contents log.ensures.0) log.ensures.1 c.flush.ensures.bytes in
-    let text = subst (λ (t : List ℕ). IsTextOf c.args.fault t) (sym c.as_str.ensures.value) c.in_ok-text.ensures.ok in
-    let more = told_wrong r.path.now (named_by r.labels) r.is_told c.tell-told.result (told r.told.start) (told r.told.start) (told r.err) (told c.tell-told.new.err) r.log.said log.result.said c.args.place c.args.fault c.as_str.result.now held.2 refl log.ensures.1 text c.tell-told.ensures in (
-      holds.0,
-      holds.1,
-      subst (λ (b : Bool). Told r.path.now (named_by r.labels) (r.is_told && b) (told r.told.start) (told c.tell-told.new.err) log.result.said) (sym c.is_ok.ensures.value) more,
+    let place = c.args.place in
+    let said : Said = wrong place c.args.fault in
+    let named = named_by r.labels in
+    let section = label_of named place.part in
+    let text : IsTextAt section place c.args.fault (string_bytes c.in_ok-text.text) = subst (λ (s : Option (ℕ × List ℕ)). IsTextAt s place c.args.fault (string_bytes c.in_ok-text.text)) c.of-section.ensures c.in_ok-text.ensures in
+    let at : (t : List ℕ) → t ≡ string_bytes c.in_ok-text.text → IsTextAt section place c.args.fault t = λ t is. subst (λ (t : List ℕ). IsTextAt section place c.args.fault t) (sym is) text in
+    let member : member_said c.place_member-member.result ≡ place_member section place.part = c.place_member-member.ensures ∙ ap (λ (s : Option (ℕ × List ℕ)). place_member s place.part) c.of-section.ensures in
+    let line = c.as_str.result.now in
+    let own = problem_record r.format r.path.now (member_said c.place_member-member.result) line in
+    let other = c.as_str-2.result.now in (
+      λ kept. written_more (IsLine r.format r.path.now named) (contents r.log.start) (contents log.result.start) (contents r.out) (contents c.write_problem.new.out) r.log.said log.result.said said own (held.0 kept) (ap contents log.ensures.0) log.ensures.1
+          (line, at line c.as_str.ensures.value, ap (λ (m : List ℕ × Content). problem_record r.format r.path.now m line) member) c.in_default.ensures,
+      wrong_then r.log.said log.result.said said log.ensures.1 refl,
+      λ kept. told_more (IsToldLine r.path.now named) r.is_told c.tell-told.result (told r.told.start) (told r.told.start) (told r.err) (told c.tell-told.new.err) r.log.said log.result.said said (problem_line r.path.now other) held.2 refl log.ensures.1
+          (other, at other c.as_str-2.ensures.value, refl) c.tell-told.ensures (sym (ap (λ (b : Bool). r.is_told && b) c.is_ok.ensures.value) ∙ kept),
     )

@@ -6,8 +6,8 @@ use Rattle.elf_linking.specs.inner.LoadedNames.{has_name}
 use Rattle.elf_linking.proofs.Loading.{name_added}
 use Rattle.elf_linking.proofs.tree.names.LoadedNames.add.Goals as goal
 
-pub returns : goal.returns
-returns c =
+pub returns-clause-names : goal.returns-clause-names
+returns-clause-names c =
     λ name.
     ap (list_any (is_at (λ k. slice_cmp nat_cmp name (vec_items k)))) c.in_ok-insert.ensures.keys
     ∙ name_added name c.in_ok-key.key c.args.self.now.set.keys

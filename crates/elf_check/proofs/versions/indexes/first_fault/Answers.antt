@@ -1,6 +1,6 @@
 use Rattle.std.proofs.Common.{arith}
 use Rattle.elf_check.proofs.Kept.{kept_none}
-use Rattle.elf_check.proofs.versions.indexes.first_unknown.Goals as goal
+use Rattle.elf_check.proofs.versions.indexes.first_fault.Goals as goal
 
 pub loop-symbol-init : goal.loop-symbol-init
 loop-symbol-init g c = record {

@@ -1,0 +1,8 @@
+-- What the contracts of this crate cite, in reading order.
+
+-- numbers and texts of any length
+pub mod Leb128
+-- the parts of a section of build attributes
+pub mod Attributes
+-- build attributes for theorems
+pub mod KnownAttributes
