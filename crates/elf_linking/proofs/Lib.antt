@@ -6,6 +6,5 @@ mod Copying
 pub mod BySegments
 pub mod Linked
 pub mod Whole
-pub mod Expanding
-pub mod Loading
-mod Opening
+-- contents that may not be known
+pub mod Known

@@ -21,10 +21,4 @@ pub mod SymbolBindings
 pub mod Missing
 pub mod Needed
 pub mod Readings
--- the linker's cache of libraries
-pub mod Cache
-pub mod Search
-pub mod Tree
-pub mod KnownObjects
-pub mod KnownCaches
 pub mod inner

@@ -1,8 +1,7 @@
-//! What the dynamic linker does: it finds the libraries of a program, and the symbol to which each reference binds.
+//! How the dynamic linker binds symbols: the symbol to which each reference of a program binds.
 //!
-//! `needed` has the names of the libraries that a file needs, `search` the places where a library is searched for,
-//! `tree` what a program loads, in order, and `bindings` what the symbols of a program and of its libraries bind to.
-//! `cache` reads the linker's cache of libraries.
+//! `needed` has the names of the libraries that a file needs, and `bindings` what the symbols of a program and of its
+//! libraries bind to. `elf_libraries` finds these libraries.
 //!
 //! These rest on look-ups of a name in an ordered list of objects. `resolve` finds the first object that has the name.
 //! `bind` finds the symbol to which a reference binds if symbols have versions: the first definition that serves the
@@ -12,13 +11,12 @@
 //! makes the tables of a list of files. `dynamic` has what is looked up and bound of a file, whether it declares section
 //! headers or not, and `links` loads that from a source.
 //!
-//! `laws` has theorems for the proofs of callers; `search::worked` and `cache::worked` have definitions at known values.
+//! `laws` has theorems for the proofs of callers.
 #![tactic(auto)]
 
 pub mod bindings;
 mod by_sections;
 mod by_segments;
-pub mod cache;
 mod choice;
 mod definitions;
 pub mod dynamic;
@@ -29,8 +27,6 @@ pub mod needed;
 mod objects;
 pub mod resolve;
 pub mod resolver;
-pub mod search;
-pub mod tree;
 mod versions;
 
 pub use choice::{bind, bind_for};

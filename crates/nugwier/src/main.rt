@@ -3,7 +3,7 @@
 
 use nugwier_commands::run::run;
 use nugwier_files::system::SystemFiles;
-use nugwier_report::escape::Escaped;
+use nugwier_writing::escape::Escaped;
 use std::alloc::{AllocError, Global};
 use std::env::{Env, FillError};
 use std::io;

@@ -11,7 +11,7 @@ mod changes;
 mod source;
 
 use changes::change;
-use elf_linking::tree::{Identity, Libraries};
+use elf_libraries::tree::{Identity, Libraries};
 use nugwier_commands::run::run;
 use nugwier_files::files::Files;
 use nugwier_files::folder::Entry;

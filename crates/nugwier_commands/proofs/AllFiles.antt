@@ -16,7 +16,7 @@ use Rattle.nugwier_commands.specs.declared.ended.Ended.{Ended}
 use Rattle.nugwier_commands.specs.inner.Loading.{AreSaidAndWritten, IsItemEnded, IsPathEnded, written_by}
 use Rattle.nugwier_programs.proofs.Configuring.{both}
 use Rattle.nugwier_files.specs.Folder.{KnownFiles, Place}
-use Rattle.nugwier_report.specs.declared.kind.Kind.{Kind}
+use Rattle.nugwier_writing.specs.declared.kind.Kind.{Kind}
 use Rattle.nugwier_report.specs.declared.report.Format.{Format}
 use Rattle.nugwier_report.specs.declared.report.Summary.{Summary}
 use Rattle.nugwier_report.specs.Said.{all_right}

@@ -7,7 +7,7 @@ use Rattle.nugwier_commands.specs.Run.{AreBytesSaid, AreFoundSaid, AreKindSaid, 
 use Rattle.nugwier_commands.specs.Run.{IsFoundSaid, IsProblemSaid, IsSaidAt, Known, Listing, Saying, is_archive, listing_of}
 use Rattle.nugwier_commands.specs.inner.Loading.{IsFrontOf}
 use Rattle.nugwier_files.specs.Folder.{KnownFiles}
-use Rattle.nugwier_report.specs.declared.kind.Kind.{Kind}
+use Rattle.nugwier_writing.specs.declared.kind.Kind.{Kind}
 use Rattle.nugwier_report.specs.Formats.{front, is_elf, not_elf}
 use Rattle.nugwier_report.specs.Labels.{Named}
 use Rattle.nugwier_report.specs.Said.{Said, whole, wrong}

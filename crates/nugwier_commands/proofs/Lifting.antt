@@ -8,7 +8,7 @@ use Rattle.nugwier_commands.specs.declared.ended.Ended.{Ended}
 use Rattle.nugwier_commands.specs.inner.Loading.{AreSaidAndWritten, IsItemEnded, IsSaidAndWritten, written_by}
 use Rattle.nugwier_commands.proofs.AllFiles.{written_one}
 use Rattle.nugwier_report.specs.Labels.{Named, no_sections}
-use Rattle.nugwier_report.specs.declared.kind.Kind.{Kind}
+use Rattle.nugwier_writing.specs.declared.kind.Kind.{Kind}
 use Rattle.nugwier_report.specs.declared.report.Summary.{Summary}
 use Rattle.nugwier_report.specs.Said.{Said, whole, wrong}
 use Rattle.nugwier_report.specs.declared.problem.Fault.{Fault}

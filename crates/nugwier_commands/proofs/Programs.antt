@@ -6,7 +6,7 @@ use Rattle.nugwier_commands.specs.declared.ended.Ended.{Ended}
 use Rattle.nugwier_commands.specs.inner.Loading.{IsSaidAndWritten, written_by}
 use Rattle.nugwier_report.specs.Labels.{Named, no_sections}
 use Rattle.nugwier_report.specs.Said.{Said}
-use Rattle.nugwier_report.specs.declared.kind.Kind.{Kind}
+use Rattle.nugwier_writing.specs.declared.kind.Kind.{Kind}
 use Rattle.nugwier_words.specs.Words.{Task}
 use Rattle.nugwier_words.specs.declared.words.Command.{Command}
 use Rattle.nugwier_words.specs.declared.words.Command.TheVariants.{Bindings, Tree}

@@ -2,7 +2,7 @@
 use Rattle.std.proofs.Common.{◌≡◌, ℕ, List, Result, Ok, Err, Option, Some, None, IfSome, refl, sym, subst}
 use Rattle.elf_records.specs.Number.{ok_map}
 use Rattle.elf_records.specs.declared.parse.ParseError.{ParseError}
-use Rattle.elf_linking.specs.Tree.{Found, file_of, without_bytes}
+use Rattle.elf_libraries.specs.Tree.{Found, file_of, without_bytes}
 use Rattle.nugwier_commands.specs.Run.{IsFoundSaid, IsProgramSaid, IsSaidAt, Known, search_of}
 use Rattle.nugwier_commands.specs.inner.Loading.{IsNamed}
 use Rattle.nugwier_programs.specs.Tree.{IsNamedSaid, IsTreeSaid, Search}

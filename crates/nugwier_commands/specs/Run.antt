@@ -17,7 +17,7 @@ use Rattle.elf_records.specs.declared.parse.ParseError.{ParseError}
 use Rattle.elf_records.specs.declared.parse.ParseError.TheVariants.{SliceReadError}
 use Rattle.elf_reading.specs.Opening.{FileView, headers_of, opened_by_segments, opened_file}
 use Rattle.elf.specs.StreamFile.{listed_file}
-use Rattle.elf_linking.specs.Tree.{file_of}
+use Rattle.elf_libraries.specs.Tree.{file_of}
 use Rattle.nugwier_listing.specs.Job.{IsSaidOf}
 use Rattle.nugwier_programs.specs.Bindings.{IsBindingsSaid}
 use Rattle.nugwier_files.specs.Below.{known_below}
@@ -27,14 +27,15 @@ use Rattle.elf.specs.ObjectFile.{ObjectFile}
 use Rattle.nugwier_listing.specs.Labels.{names_told}
 use Rattle.nugwier_report.specs.Formats.{front, is_elf, not_elf}
 use Rattle.nugwier_report.specs.Labels.{Named, no_sections}
-use Rattle.nugwier_report.specs.Said.{Said, all_right, said_if, states, text, whole, wrong}
+use Rattle.nugwier_writing.specs.Members.{text}
+use Rattle.nugwier_report.specs.Said.{Said, all_right, said_if, states, whole, wrong}
 use Rattle.nugwier_commands.specs.Walk.{AreFound, Found, file as file_at, named as place_named, unread}
 use Rattle.nugwier_commands.specs.declared.run.Outcome.{Outcome}
 use Rattle.nugwier_commands.specs.declared.run.Outcome.TheVariants.{Done, Stopped, Wrong}
 use Rattle.nugwier_report.specs.Texts.{AreAppended, AreTexts}
 use Rattle.nugwier_report.specs.Told.{AreProblemsTold, IsLine, IsTold, IsToldLine}
-use Rattle.nugwier_report.specs.declared.kind.Kind.{Kind}
-use Rattle.nugwier_report.specs.declared.kind.Kind.TheVariants.{FileHeading, NextFileHeading}
+use Rattle.nugwier_writing.specs.declared.kind.Kind.{Kind}
+use Rattle.nugwier_writing.specs.declared.kind.Kind.TheVariants.{FileHeading, NextFileHeading}
 use Rattle.nugwier_report.specs.declared.problem.Fault.TheVariants.{OtherFormat, PastEnd, Read, System}
 use Rattle.nugwier_report.specs.declared.problem.Fault.{Fault}
 use Rattle.nugwier_report.specs.declared.problem.Part.TheVariants.{File, SectionHeaders}

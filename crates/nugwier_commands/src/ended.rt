@@ -7,24 +7,24 @@ ghost use Rattle.nugwier_report.specs.declared.report.Summary.{Summary};
 ghost use Rattle.nugwier_commands.specs.Run.{IsProgramSaid, IsWritten, heading_said, lost_fault, search_of};
 ghost use Rattle.nugwier_commands.specs.inner.Loading.{unread_said, written_by};
 ghost use Rattle.nugwier_programs.specs.Tree.{search_view, IsNamedSaid};
-ghost use Rattle.elf_linking.specs.Tree.{found_view};
+ghost use Rattle.elf_libraries.specs.Tree.{found_view};
 ghost use Rattle.nugwier_listing.specs.inner.Job.{IsTablesSaid};
 ghost use Rattle.nugwier_words.specs.Words.{task_of};
 
 use elf::ParseError;
 use elf::endian::EndianParse;
 use elf::file::Class;
-use elf_linking::tree::LoadedFile;
+use elf_libraries::tree::LoadedFile;
 use nugwier_files::files::Files;
 use nugwier_listing::job::{JobTables, say_job};
 use nugwier_programs::bindings::say_bindings;
 use nugwier_programs::tree::{FILE, Search, say_named, say_tree};
-use nugwier_report::json::Value;
-use nugwier_report::kind::Kind;
 use nugwier_report::names::Labels;
 use nugwier_report::problem::{Fault, Part, Stop};
 use nugwier_report::report::{Report, Summary};
 use nugwier_words::words::{Command, Job};
+use nugwier_writing::json::Value;
+use nugwier_writing::kind::Kind;
 use std::alloc::Global;
 use std::io::Write;
 

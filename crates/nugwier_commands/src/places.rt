@@ -11,10 +11,10 @@ use crate::loading::stopped;
 use crate::run::run_path;
 use crate::walk::{Found, Walk};
 use nugwier_files::files::Files;
-use nugwier_report::kind::Kind;
 use nugwier_report::problem::Fault;
 use nugwier_report::report::Summary;
 use nugwier_words::words::Job;
+use nugwier_writing::kind::Kind;
 use std::alloc::{AllocError, Global};
 use std::io::Write;
 

@@ -6,10 +6,10 @@ use elf::endian::EndianParse;
 use elf::section::SectionHeader;
 use elf::segment::ProgramHeader;
 use elf::{ElfStream, ParseError, StreamSource, abi};
-use nugwier_listing::contents::has_name;
-use nugwier_listing::headings::known_names;
-use nugwier_listing::taking::NotTaken;
-use nugwier_listing::typed_sections::{
+use nugwier_taking::headings::known_names;
+use nugwier_taking::named::has_name;
+use nugwier_taking::taking::NotTaken;
+use nugwier_taking::typed_sections::{
     GROUP_TYPES, HASH_TYPES, MACHINE_ATTRIBUTE_TYPES, NOTE_TYPES, RELOCATION_TYPES, VERSION_TYPES,
 };
 use nugwier_words::words::{Command, Job};

@@ -1,6 +1,6 @@
 //! Runs the program, apart from the operating system.
 ghost use Rattle.std.specs.Prelude.{◌≡◌, ◌++◌, codes, IfOk, IfSome, Ok, OnOk};
-ghost use Rattle.elf_linking.specs.Tree.{found_view};
+ghost use Rattle.elf_libraries.specs.Tree.{found_view};
 ghost use Rattle.std.specs.Io.KnownBytes.{Appends};
 ghost use Rattle.elf_reading.specs.Opening.{opened_by_segments};
 ghost use Rattle.elf_records.specs.Endian.{any_is_little, any_of_byte};
@@ -19,16 +19,16 @@ use crate::loading::{Listed, list_bytes, list_source, stopped};
 use crate::places::run_places;
 use elf::endian::AnyEndian;
 use elf::{ElfBytes, ParseError, StreamSource};
-use elf_linking::tree::LoadedFile;
+use elf_libraries::tree::LoadedFile;
 use elf_reading::reads::fetch;
 use nugwier_files::below::FilesBelow;
 use nugwier_files::files::Files;
 use nugwier_report::formats::{FRONT, is_elf, not_elf};
-use nugwier_report::kind::Kind;
 use nugwier_report::problem::{Fault, Stop};
 use nugwier_report::report::Summary;
 use nugwier_words::help::{VERSION, help};
 use nugwier_words::words::{Command, Job, Request, WordError, parse_words};
+use nugwier_writing::kind::Kind;
 use std::alloc::Global;
 use std::io;
 use std::io::Write;

@@ -2,8 +2,8 @@
 use Rattle.std.specs.Prelude.{ℕ, if◌then◌else◌, List, [], ◌∷◌, map, Option, Some, None}
 use Rattle.std.specs.Borrow.{Bor}
 use Rattle.std.specs.Str.{bytes_eq}
-use Rattle.elf_linking.specs.Tree.{content_in}
-use Rattle.elf_linking.specs.declared.tree.memory.MemFile.{MemFile}
+use Rattle.elf_libraries.specs.Tree.{content_in}
+use Rattle.elf_libraries.specs.declared.tree.memory.MemFile.{MemFile}
 use Rattle.nugwier_files.specs.Folder.{Folder, KnownFiles, Place, has, none, unreadable}
 use Rattle.nugwier_files.specs.declared.memory.MemEntry.{MemEntry}
 use Rattle.nugwier_files.specs.declared.memory.MemFiles.{MemFiles}

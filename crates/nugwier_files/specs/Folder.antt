@@ -2,8 +2,8 @@
 use Rattle.std.specs.Prelude.{ℕ, List, map, Option, Some, None, string_bytes}
 use Rattle.std.specs.Option.{option_map}
 use Rattle.std.specs.Global.{Vec}
-use Rattle.elf_linking.specs.Tree.{Found, opened_names, with_identity}
-use Rattle.elf_linking.specs.declared.tree.Identity.{Identity}
+use Rattle.elf_libraries.specs.Tree.{Found, opened_names, with_identity}
+use Rattle.elf_libraries.specs.declared.tree.Identity.{Identity}
 use Rattle.nugwier_files.specs.declared.folder.Entry.{Entry}
 use Rattle.nugwier_files.specs.declared.folder.EntryKind.{EntryKind}
 

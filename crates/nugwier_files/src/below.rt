@@ -6,7 +6,7 @@ ghost use Rattle.nugwier_files.specs.Below.{below};
 use crate::files::Files;
 use crate::folder::Entry;
 use crate::opening::Opening;
-use elf_linking::tree::{Identity, Libraries};
+use elf_libraries::tree::{Identity, Libraries};
 use std::alloc::{AllocError, Global};
 use std::io;
 

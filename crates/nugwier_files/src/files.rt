@@ -10,7 +10,7 @@ ghost use Rattle.std.specs.declared.io.ErrorKind.TheVariants.{OutOfMemory};
 use crate::folder::Entry;
 use crate::opening::Opening;
 use elf::StreamSource;
-use elf_linking::tree::{Identity, Libraries};
+use elf_libraries::tree::{Identity, Libraries};
 use std::alloc::AllocError;
 use std::io;
 

@@ -1,7 +1,7 @@
 //! Files and folders in memory, which are known.
 ghost use Rattle.std.specs.Prelude.{[], ◌≡◌, IfOk, Some, map, take};
 ghost use Rattle.std.specs.Option.{option_map};
-ghost use Rattle.elf_linking.specs.Tree.{content_in};
+ghost use Rattle.elf_libraries.specs.Tree.{content_in};
 ghost use Rattle.nugwier_files.specs.Files.{folder_in, found_folder, mem_place};
 ghost use Rattle.nugwier_files.specs.Folder.{place_of};
 
@@ -9,8 +9,8 @@ use crate::files::Files;
 use crate::folder::{Entry, EntryKind};
 use crate::opening::Opening;
 use elf::MemSource;
-use elf_linking::tree::memory::MemFile;
-use elf_linking::tree::{Identity, Libraries};
+use elf_libraries::tree::memory::MemFile;
+use elf_libraries::tree::{Identity, Libraries};
 use std::alloc::{AllocError, Global};
 use std::io;
 

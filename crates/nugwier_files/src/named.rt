@@ -1,13 +1,13 @@
 //! Libraries that are opened for their names alone.
 ghost use Rattle.std.specs.Prelude.{◌≡◌, IfOk, IfSome};
 ghost use Rattle.std.specs.Option.{option_map};
-ghost use Rattle.elf_linking.specs.Tree.{found_view, opened_names};
+ghost use Rattle.elf_libraries.specs.Tree.{found_view, opened_names};
 
 use crate::files::Files;
 use crate::opening::Opening;
 use elf::StreamSource;
-use elf_linking::tree::whole::opened;
-use elf_linking::tree::{LoadedFile, Opener};
+use elf_libraries::tree::whole::opened;
+use elf_libraries::tree::{LoadedFile, Opener};
 use std::alloc::{AllocError, Global};
 
 /// Libraries that are read by parts, only their headers and their names. A library that cannot be read so is read

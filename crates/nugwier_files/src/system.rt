@@ -6,7 +6,7 @@ use crate::folder::{Entry, EntryKind};
 use crate::opening::Opening;
 use elf::{FileSource, abi};
 use elf_archive::archive::thinness;
-use elf_linking::tree::{Identity, Libraries};
+use elf_libraries::tree::{Identity, Libraries};
 use std::alloc::{AllocError, Global};
 use std::fs::{DirEntry, File, FileType};
 use std::io::Read;

@@ -3,24 +3,24 @@ use Rattle.std.specs.Prelude.{◌≡◌, ℕ, Bool, if◌then◌else◌, List, [
 use Rattle.std.specs.List.{flat_map}
 use Rattle.elf.specs.ObjectFile.{ObjectFile}
 use Rattle.elf_records.specs.declared.file.FileHeader.{FileHeader}
-use Rattle.nugwier_listing.specs.Addresses.{AreAddressesSaid}
-use Rattle.nugwier_listing.specs.Attributes.{said_of_attributes}
-use Rattle.nugwier_listing.specs.Chains.{said_of_chains}
-use Rattle.nugwier_listing.specs.Check.{IsCheckSaid}
-use Rattle.nugwier_listing.specs.Contents.{said_of_contents}
-use Rattle.nugwier_listing.specs.DebugLinks.{said_of_debug_links}
-use Rattle.nugwier_listing.specs.Dynamic.{said_of_entries, said_of_needed}
-use Rattle.nugwier_listing.specs.Groups.{said_of_groups}
-use Rattle.nugwier_report.specs.Header.{header_said}
-use Rattle.nugwier_listing.specs.Hardening.{kind_of, said_of_hardening}
-use Rattle.nugwier_listing.specs.Identity.{said_of_identity}
-use Rattle.nugwier_listing.specs.Notes.{said_of_notes}
-use Rattle.nugwier_listing.specs.Plan.{IsPlanSaid}
-use Rattle.nugwier_listing.specs.Relocations.{machine_of, said_of_relocations}
-use Rattle.nugwier_listing.specs.Sections.{said_of_sections}
-use Rattle.nugwier_listing.specs.Segments.{said_of_segments}
-use Rattle.nugwier_listing.specs.Symbols.{AreExportsSaid, AreSymbolsSaid, said_of_dynamic_symbols, said_of_symbols}
-use Rattle.nugwier_listing.specs.VersionLists.{said_of_version_lists}
+use Rattle.nugwier_symbols.specs.Addresses.{AreAddressesSaid}
+use Rattle.nugwier_sections.specs.Attributes.{said_of_attributes}
+use Rattle.nugwier_sections.specs.Chains.{said_of_chains}
+use Rattle.nugwier_sections.specs.Check.{IsCheckSaid}
+use Rattle.nugwier_sections.specs.Contents.{said_of_contents}
+use Rattle.nugwier_sections.specs.DebugLinks.{said_of_debug_links}
+use Rattle.nugwier_hardening.specs.Dynamic.{said_of_entries, said_of_needed}
+use Rattle.nugwier_symbols.specs.Groups.{said_of_groups}
+use Rattle.nugwier_records.specs.Header.{header_said}
+use Rattle.nugwier_hardening.specs.Hardening.{kind_of, said_of_hardening}
+use Rattle.nugwier_sections.specs.Identity.{said_of_identity}
+use Rattle.nugwier_sections.specs.Notes.{said_of_notes}
+use Rattle.nugwier_sections.specs.Plan.{IsPlanSaid}
+use Rattle.nugwier_symbols.specs.Relocations.{machine_of, said_of_relocations}
+use Rattle.nugwier_sections.specs.Sections.{said_of_sections}
+use Rattle.nugwier_sections.specs.Segments.{said_of_segments}
+use Rattle.nugwier_symbols.specs.Symbols.{AreExportsSaid, AreSymbolsSaid, said_of_dynamic_symbols, said_of_symbols}
+use Rattle.nugwier_sections.specs.VersionLists.{said_of_version_lists}
 use Rattle.nugwier_listing.specs.declared.list.ListedPart.{ListedPart}
 use Rattle.nugwier_listing.specs.declared.list.ListedPart.TheVariants as part
 use Rattle.nugwier_report.specs.Said.{Said}

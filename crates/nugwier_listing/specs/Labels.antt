@@ -1,7 +1,7 @@
 -- The names of sections with which problems are told.
 use Rattle.std.specs.Prelude.{ℕ, ◌==◌, ◌||◌, not, Bool, true, false, if◌then◌else◌, List, length, Option, None}
 use Rattle.elf.specs.ObjectFile.{ObjectFile}
-use Rattle.nugwier_listing.specs.Headings.{known_names}
+use Rattle.nugwier_taking.specs.Headings.{known_names}
 use Rattle.nugwier_words.specs.Words.{Task}
 use Rattle.nugwier_words.specs.declared.words.Command.{Command}
 use Rattle.nugwier_words.specs.declared.words.Command.TheVariants.{Bindings, BuildId, List as ListCommand, Plan, Tree}

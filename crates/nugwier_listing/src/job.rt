@@ -1,27 +1,27 @@
 //! What is said of a file for a command: its tables are taken, and then what is said of them is written.
 ghost use Rattle.std.specs.Prelude.{◌≡◌, ℕ, IfOk, List, OnOk};
 ghost use Rattle.nugwier_listing.specs.Job.{IsSaidOf};
-ghost use Rattle.nugwier_listing.specs.Whole.{file_of};
+ghost use Rattle.nugwier_taking.specs.Whole.{file_of};
 ghost use Rattle.nugwier_listing.specs.inner.Job.{IsTablesSaid};
 ghost use Rattle.nugwier_report.specs.Said.{Said, saying};
 ghost use Rattle.nugwier_words.specs.Words.{task_of};
 
-use crate::addresses::{AddressTables, say_addresses, take_addresses};
-use crate::check::{Checked, say_check, take_check};
-use crate::dynamic::{FoundEntries, say_needed, take_dynamic};
-use crate::hardening::{HardeningTables, say_hardened, take_hardening};
-use crate::identity::say_identity;
 use crate::list::{ListTables, say_list, take_list};
-use crate::listed::ListedFile;
-use crate::plan::{say_plan, take_plan};
-use crate::symbols::{SymbolTables, say_table, take_letters, take_linked};
-use crate::taking::{self, NotTaken};
 use elf::ParseError;
 use elf::endian::EndianParse;
 use elf_tools::load_plan::{Mapping, PlanError};
+use nugwier_hardening::dynamic::{FoundEntries, say_needed, take_dynamic};
+use nugwier_hardening::hardening::{HardeningTables, say_hardened, take_hardening};
+use nugwier_records::symbols::Form;
 use nugwier_report::problem::Stop;
 use nugwier_report::report::Report;
-use nugwier_report::symbols::Form;
+use nugwier_sections::check::{Checked, say_check, take_check};
+use nugwier_sections::identity::say_identity;
+use nugwier_sections::plan::{say_plan, take_plan};
+use nugwier_symbols::addresses::{AddressTables, say_addresses, take_addresses};
+use nugwier_symbols::symbols::{SymbolTables, say_table, take_letters, take_linked};
+use nugwier_taking::listed::ListedFile;
+use nugwier_taking::taking::{self, NotTaken};
 use nugwier_words::words::{Command, Job};
 use std::alloc::Global;
 use std::io::Write;

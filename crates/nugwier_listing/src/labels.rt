@@ -1,15 +1,15 @@
 //! The names of the sections, for what is told of them.
 ghost use Rattle.std.specs.Prelude.{◌≡◌, IfOk};
 ghost use Rattle.nugwier_listing.specs.Labels.{has_sections, names_told, tells_sections};
-ghost use Rattle.nugwier_listing.specs.Whole.{file_of};
+ghost use Rattle.nugwier_taking.specs.Whole.{file_of};
 ghost use Rattle.nugwier_words.specs.Words.{task_of};
 
-use crate::headings::known_names;
-use crate::listed::ListedFile;
-use crate::taking::NotTaken;
 use elf::endian::EndianParse;
 use elf::string_table::TerminatedStrings;
 use nugwier_report::names::Labels;
+use nugwier_taking::headings::known_names;
+use nugwier_taking::listed::ListedFile;
+use nugwier_taking::taking::NotTaken;
 use nugwier_words::words::{Command, Job, Parts};
 
 /// Takes the sections of a file, with their names if problems of this job are told with them, and if they can be

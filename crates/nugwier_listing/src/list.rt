@@ -2,33 +2,33 @@
 ghost use Rattle.std.specs.Prelude.{◌≡◌, ◌++◌, IfOk, OnOk};
 ghost use Rattle.std.specs.List.{flat_map};
 ghost use Rattle.nugwier_listing.specs.Job.{is_listed, said_if_listed, said_of_list, said_of_part};
-ghost use Rattle.nugwier_listing.specs.Whole.{file_of};
+ghost use Rattle.nugwier_taking.specs.Whole.{file_of};
 ghost use Rattle.nugwier_listing.specs.inner.Job.{list_said, part_said};
 ghost use Rattle.nugwier_report.specs.Said.{saying};
 ghost use Rattle.nugwier_words.specs.Words.{task_of};
 
-use crate::attributes::{AttributesPart, take_attributes};
-use crate::chains::{ChainsPart, take_chains};
-use crate::contents::{ContentPart, take_contents};
-use crate::debug_links::{LinkPart, take_debug_links};
-use crate::dynamic::{FoundEntries, say_entries, take_dynamic};
-use crate::groups::{GroupTables, say_groups, take_groups};
-use crate::hardening::take_kind;
-use crate::listed::ListedFile;
-use crate::notes::{NotePart, take_notes};
-use crate::parts::say_each;
-use crate::relocations::{RelocationTables, say_relocations, take_relocations};
-use crate::sections::{SectionTables, say_sections, take_sections};
-use crate::segments::{SegmentTables, say_segments, take_segments};
-use crate::symbols::{SymbolTables, say_table, take_dynamic_symbols, take_symbols};
-use crate::taking::NotTaken;
-use crate::version_lists::{VersionPart, take_version_lists};
 use elf::endian::EndianParse;
 use elf::file::FileHeader;
+use nugwier_hardening::dynamic::{FoundEntries, say_entries, take_dynamic};
+use nugwier_hardening::hardening::take_kind;
+use nugwier_records::header::say_header;
 use nugwier_report::hardening::FileKind;
-use nugwier_report::header::say_header;
 use nugwier_report::problem::Stop;
 use nugwier_report::report::Report;
+use nugwier_sections::attributes::{AttributesPart, take_attributes};
+use nugwier_sections::chains::{ChainsPart, take_chains};
+use nugwier_sections::contents::{ContentPart, take_contents};
+use nugwier_sections::debug_links::{LinkPart, take_debug_links};
+use nugwier_sections::notes::{NotePart, take_notes};
+use nugwier_sections::sections::{SectionTables, say_sections, take_sections};
+use nugwier_sections::segments::{SegmentTables, say_segments, take_segments};
+use nugwier_sections::version_lists::{VersionPart, take_version_lists};
+use nugwier_symbols::groups::{GroupTables, say_groups, take_groups};
+use nugwier_symbols::relocations::{RelocationTables, say_relocations, take_relocations};
+use nugwier_symbols::symbols::{SymbolTables, say_table, take_dynamic_symbols, take_symbols};
+use nugwier_taking::listed::ListedFile;
+use nugwier_taking::parts::say_each;
+use nugwier_taking::taking::NotTaken;
 use nugwier_words::words::{Job, Parts};
 use std::alloc::Global;
 use std::io::Write;
@@ -94,7 +94,7 @@ pub struct ListTables<'f, 'w, E: EndianParse> {
 
 /// Takes what is asked for.
 #[tactic(auto, unfolding(crate::specs::inner::Job::list_said))]
-pub(crate) fn take_list<'f, 'w, E: EndianParse, R: ListedFile<E>>(
+pub fn take_list<'f, 'w, E: EndianParse, R: ListedFile<E>>(
     alloc: Global,
     job: &'w Job<'w>,
     file: &'f R,
@@ -197,7 +197,7 @@ fn take_part<'f, E: EndianParse, R: ListedFile<E>>(
 
 /// Says what was taken.
 #[tactic(auto, unfolding(crate::specs::inner::Job::list_said))]
-pub(crate) fn say_list<E: EndianParse, W: Write, V: Write>(
+pub fn say_list<E: EndianParse, W: Write, V: Write>(
     alloc: Global,
     tables: ListTables<'_, '_, E>,
     report: &mut Report<'_, W, V>,

@@ -10,11 +10,11 @@ use Rattle.elf_reading.specs.Opening.{FileView, StreamHeaders, headers_of, opene
 use Rattle.elf.specs.ElfStream.{IsClosed, Keeps, StreamView, opened_as}
 use Rattle.elf.specs.StreamFile.{listed_file, stream_file}
 use Rattle.elf.proofs.Same.{opened_as_is}
-use Rattle.elf_linking.proofs.Loading.{if_known, when_known}
+use Rattle.elf_linking.proofs.Known.{if_known, when_known}
 use Rattle.elf_linking.specs.Following.{SameLinks}
 use Rattle.elf_linking.specs.Missing.{loaded_part}
-use Rattle.elf_linking.specs.Tree.{found_view, linked_file, or_other}
-use Rattle.elf_linking.specs.declared.tree.LoadedFile.{LoadedFile}
+use Rattle.elf_libraries.specs.Tree.{found_view, linked_file, or_other}
+use Rattle.elf_libraries.specs.declared.tree.LoadedFile.{LoadedFile}
 use Rattle.nugwier_programs.specs.Bindings.{Gone, IsOpeningBy, IsOpeningIf, IsOpeningOf, IsPartOf, Loaded, Opening, Refused}
 use Rattle.nugwier_programs.specs.inner.Opening.{IsLinkedTo, IsLoadedFrom}
 use Rattle.nugwier_programs.specs.inner.Scope.{open_at}

@@ -20,8 +20,8 @@ use Rattle.elf_linking.specs.declared.VersionedObject.{VersionedObject as Versio
 use Rattle.elf_records.specs.Table.{Table}
 use Rattle.elf_linking.specs.DynamicFile.{GivesDynamic, dynamic_symbols}
 use Rattle.elf_linking.specs.declared.resolve.ObjectFault.{ObjectFault}
-use Rattle.elf_linking.specs.Tree.{Entry, entry_of}
-use Rattle.elf_linking.specs.declared.tree.Object.{Object as LoadedObject}
+use Rattle.elf_libraries.specs.Tree.{Entry, entry_of}
+use Rattle.elf_libraries.specs.declared.tree.Object.{Object as LoadedObject}
 use Rattle.nugwier_programs.specs.Bindings.{AreAllFilesSaid, AreEach, AreFilesSaid, AreSaidFrom, AreSearched, AreSymbolsSaid, IsFileSaid, IsFileSearched, IsOpening, IsSearchedBy, OpenFile, Opening, SearchedFile, Searching, Searched, Unsearchable, WithoutSymbols, file_heading, file_uses, files_in, files_of, objects_of, open_problem, paths_of, search_problem, searched_by}
 use Rattle.nugwier_programs.specs.Tree.{Known}
 use Rattle.nugwier_report.specs.Said.{Said}

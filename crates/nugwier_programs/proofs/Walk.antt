@@ -6,17 +6,17 @@ use Rattle.std.proofs.lemmas.List.{drop_all, drop_more, get_or-replicate, get_or
 use Rattle.std.specs.List.{flat_map}
 use Rattle.std.specs.Prelude.{IfSome, if◌then◌else◌, is_some, nat_lt, set}
 use Rattle.std.specs.Option.{option_map}
-use Rattle.elf_linking.specs.Cache.{Cache, cache_view, cached_path, flags_of, flags_view}
-use Rattle.elf_linking.specs.Search.{Others, cached_by}
-use Rattle.elf_linking.specs.declared.cache.LibraryFlags.{LibraryFlags}
-use Rattle.elf_linking.specs.declared.cache.LinkerCache.{LinkerCache}
-use Rattle.elf_linking.specs.declared.tree.Kind.{Kind}
-use Rattle.elf_linking.specs.Tree.{Entry, loader_at}
+use Rattle.elf_libraries.specs.Cache.{Cache, cache_view, cached_path, flags_of, flags_view}
+use Rattle.elf_libraries.specs.Search.{Others, cached_by}
+use Rattle.elf_libraries.specs.declared.cache.LibraryFlags.{LibraryFlags}
+use Rattle.elf_libraries.specs.declared.cache.LinkerCache.{LinkerCache}
+use Rattle.elf_libraries.specs.declared.tree.Kind.{Kind}
+use Rattle.elf_libraries.specs.Tree.{Entry, loader_at}
 use Rattle.elf_linking.specs.Binding.{VersionedObject}
 use Rattle.elf_parts.specs.gnu_symver.Table.{Versions}
 use Rattle.elf_records.specs.declared.symbol.Symbol.{Symbol}
 use Rattle.elf_linking.specs.declared.bindings.kinds.SymbolBinding.{SymbolBinding}
-use Rattle.nugwier_report.specs.Bindings.{BoundSymbol}
+use Rattle.nugwier_records.specs.Bindings.{BoundSymbol}
 use Rattle.nugwier_report.specs.Said.{Said, Telling, saying}
 use Rattle.nugwier_programs.specs.Tree.{Listed, after_it, cached_in, first_by, walk}
 use Rattle.elf_linking.specs.SymbolUses.{uses_at}

@@ -22,12 +22,13 @@ use Rattle.elf_linking.specs.declared.resolve.ObjectFault.{ObjectFault}
 use Rattle.elf_linking.specs.declared.resolve.ObjectFault.TheVariants.{Read as IsRead}
 use Rattle.elf_linking.specs.SymbolBindings.{AreAllBound, is_bound}
 use Rattle.elf_linking.specs.SymbolUses.{no_uses, uses_at}
-use Rattle.elf_linking.specs.Tree.{Entry, Found, in_order, linked_file}
+use Rattle.elf_libraries.specs.Tree.{Entry, Found, in_order, linked_file}
 use Rattle.elf_linking.specs.declared.bindings.kinds.SymbolBinding.{SymbolBinding}
 use Rattle.elf_linking.specs.declared.bindings.uses.SymbolUses.{SymbolUses}
 use Rattle.elf_linking.specs.declared.bindings.uses.UsesError.{UsesError}
-use Rattle.nugwier_report.specs.Said.{Said, states, text, whole, wrong}
-use Rattle.nugwier_report.specs.declared.kind.Kind.TheVariants.{FileHeading, NextFileHeading}
+use Rattle.nugwier_writing.specs.Members.{text}
+use Rattle.nugwier_report.specs.Said.{Said, states, whole, wrong}
+use Rattle.nugwier_writing.specs.declared.kind.Kind.TheVariants.{FileHeading, NextFileHeading}
 use Rattle.nugwier_report.specs.declared.problem.Fault.{Fault}
 use Rattle.nugwier_report.specs.declared.problem.Fault.TheVariants.{NoHash, Object, Read, Relocations, Unread}
 use Rattle.nugwier_report.specs.declared.problem.Part.TheVariants.{File}

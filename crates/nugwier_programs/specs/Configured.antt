@@ -8,7 +8,7 @@ use Rattle.std.specs.List.Sorted.{IsPermutation, IsSortedByKey}
 use Rattle.std.specs.Ordering.{nat_cmp}
 use Rattle.std.specs.Str.{bytes_eq, is_utf8}
 use Rattle.elf_dynamic.specs.Conf.{Entry, conf_entries}
-use Rattle.elf_linking.specs.Tree.{folder_of, last_slash}
+use Rattle.elf_libraries.specs.Tree.{folder_of, last_slash}
 use Rattle.nugwier_files.specs.Folder.{Folder, KnownFiles, Place, has, none, unreadable}
 use Rattle.nugwier_files.specs.declared.folder.EntryKind.{EntryKind}
 use Rattle.nugwier_files.specs.declared.folder.EntryKind.TheVariants as kind

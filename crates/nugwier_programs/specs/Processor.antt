@@ -8,7 +8,7 @@ use Rattle.std.specs.Str.{bytes_eq}
 use Rattle.elf_abi.specs.declared.abi.TheConstants.{EM_X86_64}
 use Rattle.elf_records.specs.declared.file.Class.{Class}
 use Rattle.elf_records.specs.declared.file.Class.TheVariants.{ELF32, ELF64}
-use Rattle.elf_linking.specs.declared.tree.Kind.{Kind}
+use Rattle.elf_libraries.specs.declared.tree.Kind.{Kind}
 use Rattle.nugwier_programs.specs.declared.processor.Level.{Level}
 use Rattle.nugwier_programs.specs.declared.processor.Level.TheVariants.{Baseline, V2, V3, V4}
 

@@ -18,10 +18,10 @@ use Rattle.elf_linking.specs.declared.bindings.kinds.SymbolFault.{SymbolFault}
 use Rattle.elf_linking.specs.declared.bindings.kinds.SymbolFault.TheVariants.{Name, Object, Version}
 use Rattle.elf_linking.specs.SymbolUses.{uses_at}
 use Rattle.elf_linking.specs.declared.bindings.uses.SymbolUses.{SymbolUses}
-use Rattle.nugwier_report.specs.Bindings.{BoundSymbol, Missing, Target, ToSymbol, Unknown, Weak, binding_said}
+use Rattle.nugwier_records.specs.Bindings.{BoundSymbol, Missing, Target, ToSymbol, Unknown, Weak, binding_said}
 use Rattle.nugwier_report.specs.Said.{Said, whole, wrong}
-use Rattle.nugwier_report.specs.declared.bindings.Place.{Place}
-use Rattle.nugwier_report.specs.declared.bindings.Place.TheVariants.{Elsewhere, First, Same}
+use Rattle.nugwier_records.specs.declared.bindings.Place.{Place}
+use Rattle.nugwier_records.specs.declared.bindings.Place.TheVariants.{Elsewhere, First, Same}
 use Rattle.nugwier_report.specs.declared.problem.Fault.TheVariants.{MissingSymbol, UnknownSymbol, UnknownVersion}
 use Rattle.nugwier_report.specs.declared.problem.Part.TheVariants.{File}
 use Rattle.nugwier_report.specs.declared.quoted.QuotedSymbol.{QuotedSymbol}

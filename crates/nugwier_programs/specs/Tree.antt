@@ -9,17 +9,17 @@ use Rattle.std.specs.Result.{result_ok}
 use Rattle.elf_records.specs.Endian.{any_is_little}
 use Rattle.elf_records.specs.declared.endian.AnyEndian.{AnyEndian}
 use Rattle.elf_records.specs.declared.parse.ParseError.{ParseError}
-use Rattle.elf_linking.specs.Cache.{Cache, cache_of, cached_path, flags_of}
-use Rattle.elf_linking.specs.Search.{Others}
+use Rattle.elf_libraries.specs.Cache.{Cache, cache_of, cached_path, flags_of}
+use Rattle.elf_libraries.specs.Search.{Others}
 use Rattle.elf_linking.specs.Needed.{Named}
-use Rattle.elf_linking.specs.Tree.{Entry, Found, IsLoadOrder, entry_view, found_view, loader_at}
-use Rattle.elf_linking.specs.Tree.{without_bytes}
+use Rattle.elf_libraries.specs.Tree.{Entry, Found, IsLoadOrder, entry_view, found_view, loader_at}
+use Rattle.elf_libraries.specs.Tree.{without_bytes}
 use Rattle.elf_linking.specs.declared.needed.NamesError.{NamesError}
-use Rattle.elf_linking.specs.declared.tree.Kind.{Kind}
-use Rattle.elf_linking.specs.declared.tree.LoadOrder.{LoadOrder}
-use Rattle.elf_linking.specs.declared.tree.LoadedFile.{LoadedFile}
+use Rattle.elf_libraries.specs.declared.tree.Kind.{Kind}
+use Rattle.elf_libraries.specs.declared.tree.LoadOrder.{LoadOrder}
+use Rattle.elf_libraries.specs.declared.tree.LoadedFile.{LoadedFile}
 use Rattle.nugwier_files.specs.Folder.{KnownFiles, opened_in}
-use Rattle.nugwier_report.specs.Objects.{object_said}
+use Rattle.nugwier_records.specs.Objects.{object_said}
 use Rattle.nugwier_report.specs.Said.{Said, whole, wrong}
 use Rattle.nugwier_report.specs.declared.problem.Fault.TheVariants.{Names, NotFound, Read}
 use Rattle.nugwier_report.specs.declared.problem.Part.TheVariants.{File}

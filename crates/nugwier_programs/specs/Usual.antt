@@ -6,7 +6,7 @@ use Rattle.elf_records.specs.declared.endian.AnyEndian.{AnyEndian}
 use Rattle.elf_records.specs.declared.endian.AnyEndian.TheVariants.{Big, Little}
 use Rattle.elf_records.specs.declared.file.Class.{Class}
 use Rattle.elf_records.specs.declared.file.Class.TheVariants.{ELF32, ELF64}
-use Rattle.elf_linking.specs.declared.tree.Kind.{Kind}
+use Rattle.elf_libraries.specs.declared.tree.Kind.{Kind}
 
 -- ---- the folders of each machine
 

@@ -1,7 +1,7 @@
 //! What the symbols of a program and of its libraries bind to.
 ghost use Rattle.std.specs.Prelude.{◌≡◌, ◌∷◌, ◌++◌, List, OnOk, Some, map};
 ghost use Rattle.std.specs.List.{flat_map};
-ghost use Rattle.elf_linking.specs.Tree.{entry_of, entry_view, file_of};
+ghost use Rattle.elf_libraries.specs.Tree.{entry_of, entry_view, file_of};
 ghost use Rattle.nugwier_programs.specs.Bindings.{AreAllFilesSaid, AreObjectsSaid, AreSearched, IsBindingsSaid};
 ghost use Rattle.nugwier_programs.specs.Bindings.{IsProgramSaid, SearchedFile, Searching, files_of, search_problem};
 ghost use Rattle.nugwier_programs.specs.inner.Scope.{AreInScope, open_view, searched_file};
@@ -19,7 +19,7 @@ use crate::bindings::objects::{
 use crate::bindings::rows::say_file;
 use crate::bindings::targets::Scope;
 use crate::tree::{Search, named_objects, open_program, say_problems};
-use elf_linking::tree::{Object, in_order};
+use elf_libraries::tree::{Object, in_order};
 use nugwier_files::files::Files;
 use nugwier_report::problem::Stop;
 use nugwier_report::report::Report;

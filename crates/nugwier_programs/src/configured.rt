@@ -3,7 +3,7 @@
 ghost use Rattle.std.specs.Prelude.{◌≡◌, ◌++◌, ◌∷◌, [], codes, ◌&&◌, IfOk, IfSome, OnOk, map, not, unwrap_or};
 ghost use Rattle.std.specs.Vec.{vec_items};
 ghost use Rattle.elf_dynamic.specs.Conf.{line_view};
-ghost use Rattle.elf_linking.specs.Search.{folders_view};
+ghost use Rattle.elf_libraries.specs.Search.{folders_view};
 ghost use Rattle.nugwier_files.specs.Folder.{place_of};
 ghost use Rattle.nugwier_programs.specs.Configured.{AreConfigured, AreListed, AreMatched, IsInOrder, IsStep, beside};
 ghost use Rattle.nugwier_programs.specs.Configured.{file, is_file, is_passed, lists_of};
@@ -14,7 +14,7 @@ ghost use Rattle.nugwier_programs.specs.Patterns.{is_match};
 use crate::paths::Paths;
 use crate::patterns::{bytes_from, first_bytes, is_match, is_pattern};
 use elf_dynamic::conf::{ConfLine, conf_lines};
-use elf_linking::tree::{folder_of, last_slash};
+use elf_libraries::tree::{folder_of, last_slash};
 use nugwier_files::files::Files;
 use nugwier_files::folder::{Entry, EntryKind};
 use std::alloc::{AllocError, Global};

@@ -3,7 +3,7 @@ ghost use Rattle.std.specs.Prelude.{◌≡◌, ◌==◌, IfOk, IfSome, map};
 ghost use Rattle.std.specs.List.{find, slice_split};
 ghost use Rattle.std.specs.Option.{option_map};
 ghost use Rattle.std.specs.Vec.{vec_items};
-ghost use Rattle.elf_linking.specs.Search.{folders_view};
+ghost use Rattle.elf_libraries.specs.Search.{folders_view};
 ghost use Rattle.nugwier_programs.specs.Processor.{cpuinfo, features_in, has, has_all, has_levels, hwcaps_of, level_for};
 ghost use Rattle.nugwier_programs.specs.Processor.{level_if, level_of, lines_of, names_features, words_if, words_of};
 
@@ -11,7 +11,7 @@ pub mod worked;
 
 use elf::abi;
 use elf::file::Class;
-use elf_linking::tree::Kind;
+use elf_libraries::tree::Kind;
 use nugwier_files::files::Files;
 use std::alloc::{AllocError, Global};
 

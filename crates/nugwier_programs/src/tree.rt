@@ -3,8 +3,8 @@ ghost use Rattle.std.specs.Prelude.{◌≡◌, ◌++◌, List, Some, IfOk, IfSom
 ghost use Rattle.std.specs.List.{flat_map};
 ghost use Rattle.std.specs.Option.{option_copied, option_map};
 ghost use Rattle.std.specs.Vec.{vec_items};
-ghost use Rattle.elf_linking.specs.Cache.{cache_view};
-ghost use Rattle.elf_linking.specs.Tree.{Entry, entry_view, file_of, found_view, loader_at};
+ghost use Rattle.elf_libraries.specs.Cache.{cache_view};
+ghost use Rattle.elf_libraries.specs.Tree.{Entry, entry_view, file_of, found_view, loader_at};
 ghost use Rattle.nugwier_programs.specs.Tree.{AreNamedObjects, IsNamedSaid, IsProgram, IsTreeSaid};
 ghost use Rattle.nugwier_programs.specs.Tree.{after_it, at_depth, cache_file, cache_in, entry_said, search_view};
 ghost use Rattle.nugwier_programs.specs.Tree.{first_needed};
@@ -19,14 +19,14 @@ use crate::configured::{borrowed, listed_folders};
 use crate::processor::{hwcaps_of, level_for};
 use crate::usual::{lib_of, platform_of, usual_folders};
 use elf::endian::AnyEndian;
-use elf_linking::cache::{LibraryFlags, LinkerCache};
-use elf_linking::search::Surroundings;
-use elf_linking::tree::{
+use elf_libraries::cache::{LibraryFlags, LinkerCache};
+use elf_libraries::search::Surroundings;
+use elf_libraries::tree::{
     LoadOrder, LoadedFile, Object, OpenError, load_order, loader_at, object_at,
 };
 use nugwier_files::files::Files;
 use nugwier_files::named::NamedLibraries;
-use nugwier_report::objects::ListedObject;
+use nugwier_records::objects::ListedObject;
 use nugwier_report::problem::{Fault, Item, Part, Place, Stop};
 use nugwier_report::quoted::{NamesFault, Quoted};
 use nugwier_report::report::Report;

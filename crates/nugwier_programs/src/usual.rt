@@ -6,7 +6,7 @@ ghost use Rattle.nugwier_programs.specs.Usual.{usual_folders};
 use elf::abi;
 use elf::endian::AnyEndian;
 use elf::file::Class;
-use elf_linking::tree::Kind;
+use elf_libraries::tree::Kind;
 use std::alloc::{AllocError, Global};
 
 static X86_64: [&str; 6] = [

@@ -4,7 +4,8 @@ use Rattle.std.specs.Prelude.{◌∷◌, Option, Some, None, codes}
 use Rattle.std.specs.Option.{option_copied, option_map}
 use Rattle.elf_abi.specs.declared.abi.TheConstants as abi
 use Rattle.elf_names.specs.Flags.{Flag, flags as flags_in}
-use Rattle.nugwier_report.specs.Said.{Content, Members, Said, flag, flags, nothing, number, states, text, word}
+use Rattle.nugwier_writing.specs.Members.{Content, Members, flag, flags, nothing, number, text, word}
+use Rattle.nugwier_report.specs.Said.{Said, states}
 use Rattle.nugwier_report.specs.declared.hardening.FileKind.{FileKind}
 use Rattle.nugwier_report.specs.declared.hardening.FileKind.TheVariants as kinds
 use Rattle.nugwier_report.specs.declared.hardening.Hardening.{Hardening}
@@ -14,7 +15,7 @@ use Rattle.nugwier_report.specs.declared.hardening.Requirement.{Requirement}
 use Rattle.nugwier_report.specs.declared.hardening.Requirement.TheVariants as need
 use Rattle.nugwier_report.specs.declared.hardening.SearchPaths.{SearchPaths}
 use Rattle.nugwier_report.specs.declared.hardening.TheConstants as names
-use Rattle.nugwier_report.specs.declared.kind.Kind.TheVariants as kind
+use Rattle.nugwier_writing.specs.declared.kind.Kind.TheVariants as kind
 
 -- the search paths of a file, if it has any
 pub record Paths : Type 0 where

@@ -10,7 +10,7 @@ use Rattle.elf_tools.specs.DebugLink.{error_text as debug_link_text}
 use Rattle.elfshow_lines.specs.Pieces.{hex, newline}
 use Rattle.nugwier_report.specs.ErrorTexts.{DIGITS_of, digits_of, file_text, linked_text, number, object_text, plan_text}
 use Rattle.nugwier_report.specs.ErrorTexts.{read_text, section_text, uses_text, words}
-use Rattle.nugwier_report.specs.Escape.{shown_bytes}
+use Rattle.nugwier_writing.specs.Escape.{shown_bytes}
 use Rattle.nugwier_report.specs.Hardening.{lack_text}
 use Rattle.nugwier_report.specs.Parts.{tag_name}
 use Rattle.nugwier_report.specs.declared.problem.Fault.{Fault}

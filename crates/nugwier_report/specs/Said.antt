@@ -1,32 +1,15 @@
 -- What nugwier says of a file: records with their members, and problems with their places.
-use Rattle.std.specs.Prelude.{ℕ, ◌+◌, ℤ, Bool, true, false, ◌&&◌, List, [], ◌∷◌, ◌++◌, Option, Some, None, Result, Ok}
-use Rattle.std.specs.Prelude.{Err}
-use Rattle.elf_names.specs.Flags.{Flag}
+use Rattle.std.specs.Prelude.{ℕ, ◌+◌, Bool, true, false, ◌&&◌, List, [], ◌∷◌, ◌++◌, Option, Some, None, Result, Ok, Err}
 use Rattle.elf_records.specs.declared.parse.ParseError.{ParseError}
 use Rattle.nugwier_report.specs.Labels.{Named}
-use Rattle.nugwier_report.specs.declared.kind.Kind.{Kind}
 use Rattle.nugwier_report.specs.declared.problem.Fault.{Fault}
 use Rattle.nugwier_report.specs.declared.problem.Fault.TheVariants.{Read}
 use Rattle.nugwier_report.specs.declared.problem.Item.TheVariants.{Whole}
 use Rattle.nugwier_report.specs.declared.problem.Part.{Part}
 use Rattle.nugwier_report.specs.declared.problem.Place.{Place}
 use Rattle.nugwier_report.specs.declared.report.Format.{Format}
-
--- the value of a member
-pub data Content : Type 0 where
-  nothing : Content
-  flag : Bool → Content
-  number : ℕ → Content
-  signed : ℤ → Content
-  word : Option (List ℕ) → Content
-  character : Option ℕ → Content
-  text : Option (List ℕ) → Content
-  bytes : List ℕ → Content
-  flags : List Flag → ℕ → Content
-
--- the members of a record, each with its key
-abbrev pub Members : Type 0
-Members = List (List ℕ × Content)
+use Rattle.nugwier_writing.specs.Members.{Members}
+use Rattle.nugwier_writing.specs.declared.kind.Kind.{Kind}
 
 pub data Said : Type 0 where
   states : Kind → Members → Said

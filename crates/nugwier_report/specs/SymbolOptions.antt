@@ -4,8 +4,8 @@ use Rattle.std.specs.Prelude.{ℕ, ◌==◌, ◌&&◌, ◌||◌, not, Bool, true
 use Rattle.elf_abi.specs.Values.{shn_abs, shn_undef, stb_local}
 use Rattle.elf_records.specs.Symbol.{symbol_binding, symbol_type}
 use Rattle.elf_records.specs.declared.symbol.Symbol.{Symbol}
-use Rattle.nugwier_report.specs.declared.kind.Kind.{Kind}
-use Rattle.nugwier_report.specs.declared.kind.Kind.TheVariants as kind
+use Rattle.nugwier_writing.specs.declared.kind.Kind.{Kind}
+use Rattle.nugwier_writing.specs.declared.kind.Kind.TheVariants as kind
 use Rattle.nugwier_report.specs.declared.symbol_options.Extent.{Extent}
 use Rattle.nugwier_report.specs.declared.symbol_options.Extent.TheVariants.{All, Defined, Undefined}
 use Rattle.nugwier_report.specs.declared.symbol_options.SymbolOptions.{SymbolOptions}

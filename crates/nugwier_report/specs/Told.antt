@@ -1,19 +1,20 @@
 -- What a report writes: a line for each record and, as JSON, for each problem. Problems are also told elsewhere.
 use Rattle.std.specs.Prelude.{◌≡◌, ℕ, ◌&&◌, List, [], ◌∷◌, Option, Some, None, codes}
 use Rattle.elf_records.specs.declared.file.Class.{Class}
-use Rattle.nugwier_report.specs.Json.{object}
-use Rattle.nugwier_report.specs.Kinds.{is_heading, layout_of}
+use Rattle.nugwier_writing.specs.Json.{object}
+use Rattle.nugwier_writing.specs.Kinds.{is_heading, layout_of}
 use Rattle.nugwier_report.specs.Labels.{Named, label_of}
 use Rattle.nugwier_report.specs.Parts.{part_member}
 use Rattle.nugwier_report.specs.Problems.{IsTextAt, problem_line}
-use Rattle.nugwier_report.specs.Said.{Content, Members, Said, number, states, text, wrong}
-use Rattle.nugwier_report.specs.Text.{bold_if, look_of, row_text}
+use Rattle.nugwier_writing.specs.Members.{Content, Members, number, text}
+use Rattle.nugwier_report.specs.Said.{Said, states, wrong}
+use Rattle.nugwier_writing.specs.Text.{bold_if, look_of, row_text}
 use Rattle.nugwier_report.specs.Texts.{AreAppended}
-use Rattle.nugwier_report.specs.declared.kind.Kind.{Kind}
+use Rattle.nugwier_writing.specs.declared.kind.Kind.{Kind}
 use Rattle.nugwier_report.specs.declared.problem.Part.{Part}
 use Rattle.nugwier_report.specs.declared.report.Format.{Format}
 use Rattle.nugwier_report.specs.declared.report.Format.TheVariants.{Json, Text}
-use Rattle.nugwier_report.specs.declared.text.Style.{Style}
+use Rattle.nugwier_writing.specs.declared.text.Style.{Style}
 
 -- ---- a record
 

@@ -7,15 +7,15 @@ ghost use Rattle.nugwier_report.specs.Hardening.{hardening_members, hardening_sa
 ghost use Rattle.nugwier_report.specs.Hardening.{is_x86, kind_name, lack_text, meets, number_content, path_content};
 ghost use Rattle.nugwier_report.specs.Hardening.{paths_view, relro_name, requirement_word, row_members, shown_path};
 ghost use Rattle.nugwier_report.specs.Hardening.{word_if};
-ghost use Rattle.nugwier_report.specs.Noted.{content_of, members_said};
+ghost use Rattle.nugwier_writing.specs.Members.{content_of, members_said};
 ghost use Rattle.nugwier_report.specs.Said.{saying};
 
-use crate::json::{Member, Value};
-use crate::kind::Kind;
 use crate::problem::Stop;
 use crate::report::Report;
 use elf_abi::abi;
 use elf_names::flags::Flags;
+use nugwier_writing::json::{Member, Value};
+use nugwier_writing::kind::Kind;
 use std::io::Write;
 
 /// What a file is, by its type and how it is linked.
@@ -237,7 +237,7 @@ pub const X86_FEATURES: Flags = &[
 pub const AARCH64_FEATURES: Flags = &[(0x1, 0x1, "BTI"), (0x2, 0x2, "PAC"), (0x4, 0x4, "GCS")];
 
 #[tactic(auto, unfolding(crate::specs::Hardening::feature_flags))]
-pub(crate) fn feature_flags(machine: u16) -> Flags
+pub fn feature_flags(machine: u16) -> Flags
     ensures { flags_of result.now ≡ feature_flags machine }
 {
     match machine {
@@ -345,7 +345,7 @@ fn hardening_members<'a>(hardening: &Hardening, paths: SearchPaths<'a>) -> [Memb
 }
 
 // The name of what a file is, if it is known.
-pub(crate) fn kind_name(kind: Option<FileKind>) -> Option<&'static str>
+pub fn kind_name(kind: Option<FileKind>) -> Option<&'static str>
     ensures { option_copied result ≡ option_map kind_name kind }
 {
     match kind {
@@ -383,7 +383,7 @@ fn flag_value(flag: Option<bool>) -> Value<'static>
     }
 }
 
-pub(crate) fn number_value(number: Option<u64>) -> Value<'static>
+pub fn number_value(number: Option<u64>) -> Value<'static>
     ensures { content_of result ≡ number_content number }
 {
     match number {

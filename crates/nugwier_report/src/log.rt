@@ -3,9 +3,9 @@ ghost use Rattle.std.specs.Prelude.{◌≡◌, List, [], ◌∷◌, ◌++◌};
 ghost use Rattle.std.specs.Borrow.{ftrue};
 ghost use Rattle.nugwier_report.specs.Said.{Said};
 
-use crate::json::Member;
-use crate::kind::Kind;
 use crate::problem::{Fault, Place};
+use nugwier_writing::json::Member;
+use nugwier_writing::kind::Kind;
 use std::marker::{Model, PhantomData};
 
 /// The writer as it was, and what was said since.

@@ -63,8 +63,8 @@ fn first_of(sh_type: u32, sections: &[SectionHeader]) -> Option<usize>
         .position(|section| section.sh_type == sh_type)
 }
 
-// The name of a section, or no name if it cannot be read.
-fn label_name<'a>(names: &Option<TerminatedStrings<'a>>, section: &SectionHeader) -> &'a [u8]
+/// Returns the name of a section, or no name if it cannot be read.
+pub fn label_name<'a>(names: &Option<TerminatedStrings<'a>>, section: &SectionHeader) -> &'a [u8]
     ensures { result.now ≡ label_name names.now section.now }
 {
     let Some(names) = names else {

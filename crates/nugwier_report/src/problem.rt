@@ -1,13 +1,13 @@
 //! What is wrong in a file, and where.
 ghost use Rattle.std.specs.Prelude.{◌≡◌};
-ghost use Rattle.nugwier_report.specs.Parts.{tag_name};
+ghost use Rattle.nugwier_report.specs.Parts.{part_member, tag_name};
 ghost use Rattle.nugwier_report.specs.Said.{whole};
+ghost use Rattle.nugwier_writing.specs.Members.{member_said};
 ghost use Rattle.nugwier_report.specs.declared.problem.Stop.TheVariants.{Memory as IsMemory, Write as IsWrite};
 
 use crate::error_texts::{
     FileText, LinkedText, ObjectText, PlanText, ReadText, SectionText, UsesText,
 };
-use crate::escape::Escaped;
 use crate::hardening::Requirement;
 use crate::quoted::{NamesFault, Quoted, QuotedSymbol, UnknownBinding};
 use elf_attributes::attributes::AttributeError;
@@ -18,6 +18,8 @@ use elf_linking::resolve::ObjectFault;
 use elf_parts::parse::ParseError;
 use elf_tools::debug_link::DebugLinkError;
 use elf_tools::load_plan::PlanError;
+use nugwier_writing::escape::Escaped;
+use nugwier_writing::json::{Member, Value};
 use std::alloc::{AllocError, AllocFailed};
 use std::{fmt, io};
 
@@ -62,6 +64,17 @@ pub enum RelocationTable {
     Relr,
     /// `DT_JMPREL`.
     Plt,
+}
+
+/// The section or the segment of a part of a file, by its number.
+pub fn part_member(part: Part) -> Member<'static>
+    ensures { member_said result ≡ part_member part }
+{
+    match part {
+        Part::Section(number) => ("section", Value::Number(number)),
+        Part::Segment(number) => ("segment", Value::Number(number)),
+        _ => ("section", Value::Null),
+    }
 }
 
 impl RelocationTable {

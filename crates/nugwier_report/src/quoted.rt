@@ -2,9 +2,9 @@
 ghost use Rattle.std.specs.Prelude.{◌≡◌};
 
 use crate::error_texts::ReadText;
-use crate::escape::Escaped;
 use elf_linking::bindings::kinds::SymbolFault;
 use elf_linking::needed::NamesError;
+use nugwier_writing::escape::Escaped;
 use std::fmt;
 use std::marker::Model;
 

@@ -47,7 +47,7 @@ impl<R: Row> Row for Renumbered<'_, R> {
 }
 
 // Says it of the items of an iterator.
-pub(crate) fn say_items<R: Row, I: Iterator<Item = R::Item> + Drop, W: Write, V: Write>(
+pub fn say_items<R: Row, I: Iterator<Item = R::Item> + Drop, W: Write, V: Write>(
     items: I,
     row: &R,
     report: &mut Report<'_, W, V>,

@@ -3,9 +3,9 @@ ghost use Rattle.std.specs.Prelude.{◌≡◌};
 ghost use Rattle.nugwier_report.specs.SymbolOptions.{is_external, is_for_debuggers, is_of_extent, is_selected, is_sized};
 ghost use Rattle.nugwier_report.specs.SymbolOptions.{letter_kind, no_options, portable_kind, row_kind};
 
-use crate::kind::Kind;
 use elf_abi::abi;
 use elf_parts::symbol::Symbol;
+use nugwier_writing::kind::Kind;
 
 /// Which symbols are listed, by whether they are defined.
 #[derive(Debug, Clone, Copy)]
@@ -59,7 +59,7 @@ impl SymbolOptions {
     }
 
     // Whether a symbol is listed. The first one is none.
-    pub(crate) fn selects(self, number: u64, symbol: &Symbol) -> bool
+    pub fn selects(self, number: u64, symbol: &Symbol) -> bool
         ensures { result ≡ is_selected self number symbol.now }
     {
         let is_seen = !self.is_external || is_external(symbol);
@@ -71,7 +71,7 @@ impl SymbolOptions {
     }
 
     // The kind of a symbol's record.
-    pub(crate) fn kind(self, symbol: &Symbol) -> Kind
+    pub fn kind(self, symbol: &Symbol) -> Kind
         ensures { result ≡ row_kind self symbol.now }
     {
         if self.is_portable {

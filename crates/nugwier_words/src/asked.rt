@@ -14,7 +14,7 @@ use crate::words::{AskedAddress, Command, Form, Job, Parts, Request, Wanted, Wor
 use nugwier_report::hardening::Requirement;
 use nugwier_report::report::Format;
 use nugwier_report::symbol_options::SymbolOptions;
-use nugwier_report::text::Style;
+use nugwier_writing::text::Style;
 use std::alloc::Global;
 
 // An option of every command, which may also stand before the command.

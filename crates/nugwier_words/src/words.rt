@@ -5,10 +5,10 @@ ghost use Rattle.nugwier_words.specs.declared.words.WordError.TheVariants.{Memor
 ghost use Rattle.std.specs.Prelude.{◌≡◌};
 
 use crate::asked::{Asked, general_of};
-use nugwier_report::escape::Escaped;
 use nugwier_report::hardening::Requirement;
 use nugwier_report::report::Format;
 use nugwier_report::symbol_options::SymbolOptions;
+use nugwier_writing::escape::Escaped;
 use std::alloc::{AllocError, AllocFailed, Global};
 use std::error::Error;
 use std::fmt;

@@ -3,7 +3,7 @@ use Rattle.std.specs.Prelude.{◌≡◌, ℕ, Bool, List, [], ◌∷◌, ◌++�
 use Rattle.elf_records.specs.Number.{ok_map}
 use Rattle.elf.specs.ElfStream.{StreamView}
 use Rattle.elf.specs.StreamFile.{stream_file}
-use Rattle.elf_linking.specs.Tree.{Found, file_of, without_bytes}
+use Rattle.elf_libraries.specs.Tree.{Found, file_of, without_bytes}
 use Rattle.elf_archive.specs.Archive.{Item}
 use Rattle.nugwier_commands.specs.Run.{ArePathSaid, AreWritten, IsBytesSaid, IsItemSaid, IsSaidAt, IsWritten, Known}
 use Rattle.nugwier_commands.specs.Run.{IsFileSaid, IsWrong, Listing, Saying, Written, heading_said, lost_fault}
@@ -22,7 +22,7 @@ use Rattle.nugwier_words.specs.declared.words.WordError.{WordError}
 use Rattle.nugwier_words.specs.declared.words.WordError.TheVariants.{Memory}
 use Rattle.nugwier_report.specs.Formats.{front}
 use Rattle.nugwier_report.specs.Said.{Said, said_if, whole, wrong}
-use Rattle.nugwier_report.specs.declared.kind.Kind.{Kind}
+use Rattle.nugwier_writing.specs.declared.kind.Kind.{Kind}
 use Rattle.nugwier_words.specs.Words.{Task}
 
 -- that section headers cannot be read, if this is why

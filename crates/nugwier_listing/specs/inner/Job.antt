@@ -4,30 +4,30 @@ use Rattle.std.specs.List.{flat_map}
 use Rattle.std.specs.Option.{option_map}
 use Rattle.elf.specs.Answers.{symbols_view}
 use Rattle.elf_records.specs.Number.{ok_map}
-use Rattle.nugwier_listing.specs.Addresses.{AreSaidBy}
-use Rattle.nugwier_listing.specs.Check.{AreFoundSaid}
-use Rattle.nugwier_listing.specs.Identity.{identity_said}
-use Rattle.nugwier_listing.specs.Plan.{plan_said}
+use Rattle.nugwier_symbols.specs.Addresses.{AreSaidBy}
+use Rattle.nugwier_sections.specs.Check.{AreFoundSaid}
+use Rattle.nugwier_sections.specs.Identity.{identity_said}
+use Rattle.nugwier_sections.specs.Plan.{plan_said}
 use Rattle.nugwier_listing.specs.declared.job.JobTables.{JobTables}
 use Rattle.nugwier_listing.specs.declared.job.JobTables.TheVariants.{Address, BuildId, Check, Hardening, Listed}
 use Rattle.nugwier_listing.specs.declared.job.JobTables.TheVariants.{Needed, Nothing, Plan, Symbols}
 use Rattle.nugwier_listing.specs.declared.list.ListTables.{ListTables}
 use Rattle.nugwier_listing.specs.declared.list.PartTables.{PartTables}
 use Rattle.nugwier_listing.specs.declared.list.PartTables.TheVariants as part
-use Rattle.nugwier_listing.specs.inner.Attributes.{part_said as attributes_said}
-use Rattle.nugwier_listing.specs.inner.Chains.{part_said as chains_said}
-use Rattle.nugwier_listing.specs.inner.Contents.{part_said as content_said}
-use Rattle.nugwier_listing.specs.inner.DebugLinks.{part_said as debug_links_said}
-use Rattle.nugwier_listing.specs.inner.Dynamic.{entries_said, needed_said}
-use Rattle.nugwier_listing.specs.inner.Groups.{tables_said as groups_said}
-use Rattle.nugwier_listing.specs.inner.Hardening.{tables_said as hardening_said}
-use Rattle.nugwier_listing.specs.inner.Notes.{part_said as notes_said}
-use Rattle.nugwier_listing.specs.inner.Relocations.{tables_said}
-use Rattle.nugwier_listing.specs.inner.Sections.{taken_sections_said}
-use Rattle.nugwier_listing.specs.inner.Segments.{tables_said as segments_said}
-use Rattle.nugwier_listing.specs.inner.Symbols.{table_said}
-use Rattle.nugwier_listing.specs.inner.VersionLists.{part_said as versions_said}
-use Rattle.nugwier_report.specs.Header.{header_said}
+use Rattle.nugwier_sections.specs.inner.Attributes.{part_said as attributes_said}
+use Rattle.nugwier_sections.specs.inner.Chains.{part_said as chains_said}
+use Rattle.nugwier_sections.specs.inner.Contents.{part_said as content_said}
+use Rattle.nugwier_sections.specs.inner.DebugLinks.{part_said as debug_links_said}
+use Rattle.nugwier_hardening.specs.inner.Dynamic.{entries_said, needed_said}
+use Rattle.nugwier_symbols.specs.inner.Groups.{tables_said as groups_said}
+use Rattle.nugwier_hardening.specs.inner.Hardening.{tables_said as hardening_said}
+use Rattle.nugwier_sections.specs.inner.Notes.{part_said as notes_said}
+use Rattle.nugwier_symbols.specs.inner.Relocations.{tables_said}
+use Rattle.nugwier_sections.specs.inner.Sections.{taken_sections_said}
+use Rattle.nugwier_sections.specs.inner.Segments.{tables_said as segments_said}
+use Rattle.nugwier_symbols.specs.inner.Symbols.{table_said}
+use Rattle.nugwier_sections.specs.inner.VersionLists.{part_said as versions_said}
+use Rattle.nugwier_records.specs.Header.{header_said}
 use Rattle.nugwier_report.specs.Said.{Said}
 
 module _ {E : Type 0} (little : E → Bool) where

@@ -5,7 +5,7 @@ use Rattle.elf_records.specs.declared.endian.AnyEndian.{AnyEndian}
 use Rattle.elf_records.specs.declared.parse.ParseError.{ParseError}
 use Rattle.elf_reading.specs.Opening.{FileView}
 use Rattle.elf.specs.ElfStream.{StreamView}
-use Rattle.elf_linking.specs.Tree.{linked_file}
+use Rattle.elf_libraries.specs.Tree.{linked_file}
 use Rattle.nugwier_programs.specs.Bindings.{IsPartOf}
 use Rattle.nugwier_programs.specs.inner.Scope.{open_at}
 

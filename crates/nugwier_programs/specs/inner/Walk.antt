@@ -1,7 +1,7 @@
 -- The walk over the objects of a program, as the code keeps it.
 use Rattle.std.specs.Prelude.{◌≡◌, ℕ, ◌<◌, nat_lt, if◌then◌else◌, List, drop, get_or, length, map, reverse, slice_set}
 use Rattle.std.specs.Prelude.{Option, Some, None}
-use Rattle.elf_linking.specs.Tree.{Entry}
+use Rattle.elf_libraries.specs.Tree.{Entry}
 use Rattle.nugwier_programs.specs.Tree.{Listed, first_by}
 use Rattle.nugwier_programs.specs.declared.tree.Listed.{Listed as Given}
 

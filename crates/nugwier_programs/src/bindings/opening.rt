@@ -2,15 +2,15 @@
 ghost use Rattle.std.specs.Prelude.{◌≡◌, Err, IfOk, IfSome, IsErr, []};
 ghost use Rattle.elf_records.specs.Endian.{any_is_little, any_of_byte};
 ghost use Rattle.elf_reading.specs.Opening.{FileView, headers_of, opened_file};
-ghost use Rattle.elf_linking.specs.Tree.{found_view};
+ghost use Rattle.elf_libraries.specs.Tree.{found_view};
 ghost use Rattle.nugwier_programs.specs.Bindings.{IsPartOf, content_of};
 ghost use Rattle.nugwier_programs.specs.inner.Opening.{IsLoadedAs, IsLoadedFrom, IsLinkedTo};
 ghost use Rattle.nugwier_programs.specs.inner.Scope.{open_at};
 
 use elf::endian::AnyEndian;
 use elf::{Closed, ElfBytes, ElfStream, MemSource, ParseError, StreamSource};
+use elf_libraries::tree::LoadedFile;
 use elf_linking::links::load_links;
-use elf_linking::tree::LoadedFile;
 use nugwier_files::files::Files;
 use nugwier_files::opening::Opening;
 use std::alloc::{AllocError, Global};

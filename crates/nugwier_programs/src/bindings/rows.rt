@@ -15,7 +15,7 @@ ghost use Rattle.nugwier_programs.specs.Symbols.{outcome_problem, quoted, refere
 ghost use Rattle.nugwier_programs.specs.Symbols.{symbol_problems};
 ghost use Rattle.nugwier_programs.specs.Symbols.{calls_word, symbol_said};
 ghost use Rattle.nugwier_programs.specs.inner.Scope.{file_view, indexed_view, open_at, scope_paths, versions_of};
-ghost use Rattle.nugwier_report.specs.Bindings.{bound_view};
+ghost use Rattle.nugwier_records.specs.Bindings.{bound_view};
 ghost use Rattle.nugwier_report.specs.Said.{Said, saying};
 
 use crate::bindings::objects::BoundFile;
@@ -26,12 +26,12 @@ use elf_linking::bindings::Bound;
 use elf_linking::bindings::kinds::{SymbolBinding, SymbolFault, bind_symbols, bound_symbols};
 use elf_linking::bindings::uses::{NO_USES, SymbolUses, uses_at};
 use elf_linking::dynamic::add_dynamic_uses;
-use nugwier_report::bindings::{BoundSymbol, Place, say_binding};
-use nugwier_report::json::Value;
-use nugwier_report::kind::Kind;
+use nugwier_records::bindings::{BoundSymbol, Place, say_binding};
 use nugwier_report::problem::{Fault, Stop};
 use nugwier_report::quoted::{Quoted, QuotedSymbol, UnknownBinding};
 use nugwier_report::report::Report;
+use nugwier_writing::json::Value;
+use nugwier_writing::kind::Kind;
 use std::alloc::{AllocError, Global};
 use std::io::Write;
 

@@ -7,7 +7,7 @@ ghost use Rattle.nugwier_programs.specs.Symbols.{address_place, bound_place, own
 ghost use Rattle.nugwier_programs.specs.Symbols.{same_place};
 ghost use Rattle.nugwier_programs.specs.Symbols.{symbol_in, symbol_of, target_of, wanted_version};
 ghost use Rattle.nugwier_programs.specs.inner.Scope.{indexed_view, scope_paths, versions_of};
-ghost use Rattle.nugwier_report.specs.Bindings.{bound_view, target_view, version_view};
+ghost use Rattle.nugwier_records.specs.Bindings.{bound_view, target_view, version_view};
 
 use crate::bindings::objects::BoundFile;
 use elf::endian::AnyEndian;
@@ -17,7 +17,7 @@ use elf_linking::bindings::kinds::SymbolFault;
 use elf_linking::bindings::{Bound, IndexedObject};
 use elf_linking::{Wanted, reference};
 use elf_tools::symbol_versions::{SymbolVersion, symbol_version};
-use nugwier_report::bindings::{BoundSymbol, OwnVersion, Place, Target};
+use nugwier_records::bindings::{BoundSymbol, OwnVersion, Place, Target};
 use std::alloc::Global;
 
 /// The versions of the symbols of a file.

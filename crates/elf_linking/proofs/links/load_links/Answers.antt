@@ -4,7 +4,7 @@ use Rattle.elf.specs.StreamFile.{stream_file}
 use Rattle.elf.proofs.stream.Parted.{streamed_loaded}
 use Rattle.elf_linking.specs.Following.{LinksFollow}
 use Rattle.elf_linking.specs.Missing.{loaded_part}
-use Rattle.elf_linking.proofs.Loading.{if_known, when_known}
+use Rattle.elf_linking.proofs.Known.{if_known, when_known}
 use Rattle.elf_linking.proofs.Whole.{same_links}
 use Rattle.elf_linking.proofs.links.load_links.Goals as goal
 

@@ -3,7 +3,7 @@ use Rattle.elf_archive.specs.Archive.{Item, members_in, members_left, ok_map}
 use Rattle.elf_archive.specs.declared.archive.ArchiveError.{ArchiveError}
 use Rattle.nugwier_commands.proofs.Lifting.{as_all}
 use Rattle.nugwier_commands.specs.Run.{AreItemsSaid, AreMembersSaid, IsProblemSaid, broken, items_of, listing_of}
-use Rattle.nugwier_report.specs.declared.kind.Kind.{Kind}
+use Rattle.nugwier_writing.specs.declared.kind.Kind.{Kind}
 use Rattle.nugwier_words.specs.Words.{task_of}
 use Rattle.nugwier_commands.proofs.archive.run_archive.Goals as goal
 

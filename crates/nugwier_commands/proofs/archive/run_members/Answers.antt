@@ -3,7 +3,7 @@ use Rattle.elf_archive.specs.Archive.{item_view, members_left}
 use Rattle.nugwier_commands.proofs.AllFiles.{AreMembersSoFar, member_ended, members_ended}
 use Rattle.nugwier_commands.specs.Run.{Written}
 use Rattle.nugwier_commands.specs.inner.Loading.{written_by}
-use Rattle.nugwier_report.specs.declared.kind.Kind.{Kind}
+use Rattle.nugwier_writing.specs.declared.kind.Kind.{Kind}
 use Rattle.nugwier_words.specs.Words.{task_of}
 use Rattle.nugwier_commands.proofs.archive.run_members.Goals as goal
 

@@ -6,7 +6,7 @@ use Rattle.elf.specs.ObjectFile.{ObjectFile}
 use Rattle.elf.specs.StreamFile.{listed_file, stream_file}
 use Rattle.nugwier_commands.specs.Run.{IsFileSaid}
 use Rattle.nugwier_report.specs.Labels.{Named, named_by}
-use Rattle.nugwier_listing.specs.Whole.{file_of, stream_range}
+use Rattle.nugwier_taking.specs.Whole.{file_of, stream_range}
 use Rattle.nugwier_report.specs.Said.{Said}
 use Rattle.nugwier_words.specs.Words.{Task, task_of}
 use Rattle.nugwier_commands.proofs.loading.list_stream.Goals as goal

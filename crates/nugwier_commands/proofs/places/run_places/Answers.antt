@@ -3,7 +3,7 @@ use Rattle.nugwier_commands.proofs.AllFiles.{ArePlacesSoFar, found_ended, places
 use Rattle.nugwier_commands.specs.Run.{Written, first_heading}
 use Rattle.nugwier_commands.specs.Walk.{found_view, named, places_of}
 use Rattle.nugwier_commands.specs.inner.Loading.{written_by}
-use Rattle.nugwier_report.specs.declared.kind.Kind.{Kind}
+use Rattle.nugwier_writing.specs.declared.kind.Kind.{Kind}
 use Rattle.nugwier_words.specs.Words.{task_of}
 use Rattle.nugwier_commands.proofs.places.run_places.Goals as goal
 

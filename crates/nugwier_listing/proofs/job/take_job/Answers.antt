@@ -1,12 +1,12 @@
 use Rattle.std.proofs.Common.{◌≡◌, ap, ◌∙◌, sym, subst}
 use Rattle.elf_records.specs.Table.{Table}
-use Rattle.nugwier_listing.specs.Addresses.{AreSaidBy}
-use Rattle.nugwier_listing.specs.Hardening.{Hardened, hardened_said}
+use Rattle.nugwier_symbols.specs.Addresses.{AreSaidBy}
+use Rattle.nugwier_hardening.specs.Hardening.{Hardened, hardened_said}
 use Rattle.nugwier_listing.specs.Job.{IsSaidBy, IsSaidOf}
-use Rattle.nugwier_listing.specs.Symbols.{AreExportsSaid, AreSymbolsSaid}
-use Rattle.nugwier_listing.specs.Whole.{file_of}
-use Rattle.nugwier_listing.specs.inner.Hardening.{tables_view}
-use Rattle.nugwier_report.specs.declared.addresses.PlacedAddress.{PlacedAddress}
+use Rattle.nugwier_symbols.specs.Symbols.{AreExportsSaid, AreSymbolsSaid}
+use Rattle.nugwier_taking.specs.Whole.{file_of}
+use Rattle.nugwier_hardening.specs.inner.Hardening.{tables_view}
+use Rattle.nugwier_records.specs.declared.addresses.PlacedAddress.{PlacedAddress}
 use Rattle.nugwier_report.specs.declared.hardening.Requirement.{Requirement}
 use Rattle.nugwier_report.specs.declared.problem.Fault.{Fault}
 use Rattle.nugwier_report.specs.Said.{Said}

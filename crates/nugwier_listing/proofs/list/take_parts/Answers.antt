@@ -2,7 +2,7 @@ use Rattle.std.proofs.Common.{◌++◌, List, sym, ap, ◌∙◌, append-nil}
 use Rattle.std.proofs.lemmas.List.{drop_all}
 use Rattle.std.specs.List.{flat_map}
 use Rattle.nugwier_listing.specs.Job.{said_if_listed}
-use Rattle.nugwier_listing.specs.Whole.{file_of}
+use Rattle.nugwier_taking.specs.Whole.{file_of}
 use Rattle.nugwier_listing.specs.declared.list.ListedPart.{ListedPart}
 use Rattle.nugwier_listing.specs.inner.Job.{part_said}
 use Rattle.nugwier_listing.proofs.list.take_parts.Goals as goal

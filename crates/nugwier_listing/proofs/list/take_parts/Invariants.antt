@@ -1,7 +1,7 @@
 use Rattle.std.proofs.Common.{◌≡◌, ◌++◌, drop}
 use Rattle.std.specs.List.{flat_map}
 use Rattle.nugwier_listing.specs.Job.{said_if_listed}
-use Rattle.nugwier_listing.specs.Whole.{file_of}
+use Rattle.nugwier_taking.specs.Whole.{file_of}
 use Rattle.nugwier_listing.specs.inner.Job.{part_said}
 use Rattle.nugwier_listing.proofs.list.take_parts.Given as goal
 

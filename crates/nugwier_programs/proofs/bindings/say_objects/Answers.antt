@@ -1,5 +1,5 @@
 use Rattle.std.proofs.Common.{List, subst}
-use Rattle.elf_linking.specs.Tree.{Entry}
+use Rattle.elf_libraries.specs.Tree.{Entry}
 use Rattle.nugwier_programs.specs.Bindings.{AreObjectsSaid}
 use Rattle.nugwier_programs.proofs.Scopes.{first_and_others}
 use Rattle.nugwier_programs.proofs.bindings.say_objects.Goals as goal

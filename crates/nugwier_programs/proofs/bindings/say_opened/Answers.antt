@@ -1,6 +1,6 @@
 use Rattle.std.proofs.Common.{◌++◌, ◌∙◌, [], ap, append-nil, map, refl, subst, sym}
 use Rattle.std.specs.List.{flat_map}
-use Rattle.elf_linking.specs.Tree.{entry_of}
+use Rattle.elf_libraries.specs.Tree.{entry_of}
 use Rattle.nugwier_programs.specs.Bindings.{AreAllFilesSaid, AreSearched, files_of, open_problem, search_problem}
 use Rattle.nugwier_programs.specs.inner.Scope.{open_view, searched_file}
 use Rattle.nugwier_programs.proofs.Scopes.{empty_is, not_empty_is, not_searched, then_said}

@@ -1,6 +1,6 @@
 use Rattle.std.proofs.Common.{◌≡◌, ◌++◌, drop, map}
 use Rattle.std.specs.Vec.{vec_items}
-use Rattle.elf_linking.specs.Search.{folders_view}
+use Rattle.elf_libraries.specs.Search.{folders_view}
 use Rattle.nugwier_programs.proofs.configured.borrowed.Given as goal
 
 -- with those that are left, the folders so far are all

@@ -1,5 +1,5 @@
 use Rattle.std.proofs.Common.{ap, sym, ◌∙◌, drop}
-use Rattle.elf_linking.proofs.Expanding.{drop_next}
+use Rattle.elf_libraries.proofs.Expanding.{drop_next}
 use Rattle.nugwier_programs.specs.Patterns.{rests_after, rests_view}
 use Rattle.nugwier_programs.proofs.patterns.rests_after.Goals as goal
 

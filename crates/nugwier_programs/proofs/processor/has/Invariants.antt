@@ -1,5 +1,5 @@
 use Rattle.std.proofs.Common.{◌≡◌, drop}
-use Rattle.elf_linking.specs.Search.{folders_view}
+use Rattle.elf_libraries.specs.Search.{folders_view}
 use Rattle.nugwier_programs.specs.Processor.{has}
 use Rattle.nugwier_programs.proofs.processor.has.Given as goal
 

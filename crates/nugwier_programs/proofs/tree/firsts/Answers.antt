@@ -1,6 +1,6 @@
 use Rattle.std.proofs.Common.{◌≡◌, ℕ, ◌+◌, ◌-◌, ◌<◌, List, length, map, ap, arith, subst, sym, ◌∙◌, rules}
 use Rattle.std.proofs.lemmas.List.{length-map}
-use Rattle.elf_linking.specs.Tree.{Entry, entry_view}
+use Rattle.elf_libraries.specs.Tree.{Entry, entry_view}
 use Rattle.nugwier_programs.specs.inner.Walk.{AreFirsts, with_first}
 use Rattle.nugwier_programs.proofs.Walk.{firsts_known, firsts_more, no_firsts}
 use Rattle.nugwier_programs.proofs.tree.firsts.Goals as goal

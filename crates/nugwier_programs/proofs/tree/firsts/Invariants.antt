@@ -1,5 +1,5 @@
 use Rattle.std.proofs.Common.{◌≡◌, ◌-◌, ◌≤◌, length, map}
-use Rattle.elf_linking.specs.Tree.{entry_view}
+use Rattle.elf_libraries.specs.Tree.{entry_view}
 use Rattle.nugwier_programs.specs.inner.Walk.{AreFirsts}
 use Rattle.nugwier_programs.proofs.tree.firsts.Given as goal
 

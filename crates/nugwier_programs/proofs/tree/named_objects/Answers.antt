@@ -3,9 +3,9 @@ use Rattle.std.proofs.lemmas.Result.{IfOk-weaker}
 use Rattle.std.specs.Prelude.{IfSome, is_some}
 use Rattle.std.specs.Option.{option_map}
 use Rattle.std.specs.Vec.{vec_items}
-use Rattle.elf_linking.specs.Cache.{cache_view}
-use Rattle.elf_linking.specs.Search.{Others, cached_by, folders_view}
-use Rattle.elf_linking.specs.Tree.{Found, IsLoadOrder, found_view}
+use Rattle.elf_libraries.specs.Cache.{cache_view}
+use Rattle.elf_libraries.specs.Search.{Others, cached_by, folders_view}
+use Rattle.elf_libraries.specs.Tree.{Found, IsLoadOrder, found_view}
 use Rattle.nugwier_files.specs.Folder.{KnownFiles, opened_in}
 use Rattle.nugwier_programs.specs.Configured.{AreListed}
 use Rattle.nugwier_programs.specs.Tree.{AreNamedIn, AreNamedObjects, Order, cache_file, cache_for, cache_in, order_view, others_of, search_view}

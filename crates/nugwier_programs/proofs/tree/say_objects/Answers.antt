@@ -1,6 +1,6 @@
 use Rattle.std.proofs.Common.{◌≡◌, suc, ◌+◌, ◌-◌, List, length, map, arith, subst, sym, ◌∙◌}
 use Rattle.std.proofs.lemmas.List.{length-map}
-use Rattle.elf_linking.specs.Tree.{Entry, entry_view}
+use Rattle.elf_libraries.specs.Tree.{Entry, entry_view}
 use Rattle.nugwier_report.specs.Said.{Telling, saying}
 use Rattle.std.specs.List.{flat_map}
 use Rattle.nugwier_programs.specs.Tree.{listed, listed_said}

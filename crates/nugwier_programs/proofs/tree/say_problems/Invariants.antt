@@ -1,6 +1,6 @@
 use Rattle.std.proofs.Common.{◌≡◌, drop, map}
 use Rattle.std.specs.List.{flat_map}
-use Rattle.elf_linking.specs.Tree.{entry_view}
+use Rattle.elf_libraries.specs.Tree.{entry_view}
 use Rattle.nugwier_report.specs.Said.{saying}
 use Rattle.nugwier_programs.specs.Tree.{object_problem, object_problems}
 use Rattle.nugwier_programs.proofs.tree.say_problems.Given as goal

@@ -1,8 +1,9 @@
 use Rattle.std.proofs.Common.{◌∷◌, [], List, ap, append_assoc, ◌∙◌}
 use Rattle.std.proofs.lemmas.Result.{on_ok_weaker}
 use Rattle.nugwier_report.specs.Hardening.{hardening_members, paths_view, row_members}
-use Rattle.nugwier_report.specs.Said.{Members, Said, Telling, saying, states}
-use Rattle.nugwier_report.specs.declared.kind.Kind.TheVariants as kind
+use Rattle.nugwier_writing.specs.Members.{Members}
+use Rattle.nugwier_report.specs.Said.{Said, Telling, saying, states}
+use Rattle.nugwier_writing.specs.declared.kind.Kind.TheVariants as kind
 use Rattle.nugwier_report.proofs.hardening.say_hardening.Goals as goal
 
 pub returns : goal.returns

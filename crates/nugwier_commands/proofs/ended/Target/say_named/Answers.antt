@@ -1,5 +1,5 @@
 use Rattle.std.proofs.Common.{◌++◌}
-use Rattle.elf_linking.specs.Tree.{found_view}
+use Rattle.elf_libraries.specs.Tree.{found_view}
 use Rattle.nugwier_commands.specs.Run.{Written, heading_said, search_of}
 use Rattle.nugwier_commands.specs.inner.Loading.{written_by}
 use Rattle.nugwier_commands.proofs.Reported.{all_said}

@@ -1,6 +1,6 @@
 use Rattle.std.proofs.Common.{List, ap, append_assoc, ◌∙◌, subst}
 use Rattle.std.proofs.lemmas.Result.{on_ok_weaker}
-use Rattle.elf_linking.specs.Tree.{found_view}
+use Rattle.elf_libraries.specs.Tree.{found_view}
 use Rattle.nugwier_commands.specs.Run.{heading_said}
 use Rattle.nugwier_programs.specs.Tree.{IsNamedSaid, Search}
 use Rattle.nugwier_report.specs.Said.{Said, Telling, saying}

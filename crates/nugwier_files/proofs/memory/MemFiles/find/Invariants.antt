@@ -1,5 +1,5 @@
 use Rattle.std.proofs.Common.{◌≡◌, drop}
-use Rattle.elf_linking.specs.Tree.{content_in}
+use Rattle.elf_libraries.specs.Tree.{content_in}
 use Rattle.nugwier_files.proofs.memory.MemFiles.find.Given as goal
 
 -- no file so far has the path

@@ -1,6 +1,6 @@
 use Rattle.std.proofs.Common.{◌≡◌, List, map}
 use Rattle.std.specs.List.{flat_map}
-use Rattle.elf_linking.specs.Tree.{entry_of}
+use Rattle.elf_libraries.specs.Tree.{entry_of}
 use Rattle.nugwier_report.specs.Said.{saying}
 use Rattle.nugwier_programs.specs.Bindings.{IsOpening, Opening, files_in, open_problem}
 use Rattle.nugwier_programs.specs.inner.Scope.{open_view}

@@ -1,4 +1,4 @@
-use Rattle.elf_linking.proofs.Loading.{when_known}
+use Rattle.elf_linking.proofs.Known.{when_known}
 use Rattle.nugwier_programs.proofs.Linked.{linked}
 use Rattle.nugwier_programs.proofs.bindings.opening.load_open.Goals as goal
 

@@ -1,8 +1,9 @@
 use Rattle.std.proofs.Common.{◌≡◌, ◌∙◌, ◌&&◌, ℕ, Bool, List, Option, ap, refl, string_bytes, subst, sym}
 use Rattle.nugwier_report.specs.Labels.{label_of, named_by}
-use Rattle.nugwier_report.specs.Noted.{member_said}
+use Rattle.nugwier_writing.specs.Members.{member_said}
 use Rattle.nugwier_report.specs.Problems.{IsTextAt, problem_line}
-use Rattle.nugwier_report.specs.Said.{Content, Said, wrong}
+use Rattle.nugwier_writing.specs.Members.{Content}
+use Rattle.nugwier_report.specs.Said.{Said, wrong}
 use Rattle.nugwier_report.specs.Told.{IsLine, IsToldLine, place_member, problem_record}
 use Rattle.nugwier_report.proofs.Telling.{told_more, written_more, wrong_then}
 use Rattle.nugwier_report.proofs.report.Report.problem.Goals as goal

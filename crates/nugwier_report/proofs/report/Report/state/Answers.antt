@@ -1,6 +1,6 @@
 use Rattle.std.proofs.Common.{[], ap, refl}
 use Rattle.nugwier_report.specs.Labels.{named_by}
-use Rattle.nugwier_report.specs.Noted.{members_said}
+use Rattle.nugwier_writing.specs.Members.{members_said}
 use Rattle.nugwier_report.specs.Said.{Said, states}
 use Rattle.nugwier_report.specs.Told.{IsLine, IsToldLine}
 use Rattle.nugwier_report.proofs.Telling.{appends_none, right_then, written_more}

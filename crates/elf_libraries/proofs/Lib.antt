@@ -1,0 +1,3 @@
+pub mod Expanding
+pub mod Loading
+mod Opening

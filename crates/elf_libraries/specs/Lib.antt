@@ -1,0 +1,7 @@
+-- the linker's cache of libraries
+pub mod Cache
+pub mod Search
+pub mod Tree
+pub mod KnownObjects
+pub mod KnownCaches
+pub mod inner

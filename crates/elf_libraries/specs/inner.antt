@@ -1,0 +1,4 @@
+-- the names of objects, as a set
+pub mod LoadedNames
+-- what is loaded so far
+pub mod Loading

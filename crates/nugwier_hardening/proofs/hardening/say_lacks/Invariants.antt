@@ -1,0 +1,11 @@
+use Rattle.std.proofs.Common.{◌≡◌, drop}
+use Rattle.std.specs.List.{flat_map}
+use Rattle.nugwier_report.specs.Said.{saying}
+use Rattle.nugwier_hardening.specs.Hardening.{lack_said}
+use Rattle.nugwier_hardening.proofs.hardening.say_lacks.Given as goal
+
+-- what was said so far, and then what is said of the requirements that are left, is the whole
+abbrev pub invariant-loop-requirement : goal.invariant-loop-requirement
+invariant-loop-requirement g l =
+    let said = flat_map (lack_said l.hardening) in
+    saying l.report (said (drop l.requirement-index l.requirements)) ≡ saying l.initial.report (said l.requirements)

@@ -1,0 +1,1026 @@
+//! How a file is hardened against attacks.
+ghost use Rattle.std.specs.Prelude.{◌≡◌, ◌==◌, IfOk, OnOk, drop, filter, length, map};
+ghost use Rattle.std.specs.List.{flat_map, list_any, slice_get, slice_split};
+ghost use Rattle.std.specs.Option.{option_copied, option_map};
+ghost use Rattle.elf.specs.Answers.{symbols_view};
+ghost use Rattle.elf.specs.Names.{is_string};
+ghost use Rattle.elf_parts.specs.Note.{notes_left};
+ghost use Rattle.elf_records.specs.Dynamic.{has_tag};
+ghost use Rattle.elf_records.specs.Number.{ok_map};
+ghost use Rattle.elf_records.specs.StringTable.{string_at};
+ghost use Rattle.elf_records.specs.Symbol.{symbol_reads};
+ghost use Rattle.elf_records.specs.Table.{table_items, table_view};
+ghost use Rattle.nugwier_hardening.specs.Hardening.{any_symbol, binds_now, count_symbols, dt_debug, dynamic_kind};
+ghost use Rattle.nugwier_hardening.specs.Hardening.{entries_unread, has_symbols};
+ghost use Rattle.nugwier_hardening.specs.Hardening.{feature_in, features_by, features_in};
+ghost use Rattle.nugwier_hardening.specs.Hardening.{features_of, file_kind};
+ghost use Rattle.nugwier_hardening.specs.Hardening.{first_properties, first_tagged, hardened, hardening_by};
+ghost use Rattle.nugwier_hardening.specs.Hardening.{headers_of};
+ghost use Rattle.nugwier_hardening.specs.Hardening.{has_flag, has_type, has_unsafe_path, is_canary};
+ghost use Rattle.nugwier_hardening.specs.Hardening.{is_executable_stack, is_fortifiable, is_fortified};
+ghost use Rattle.nugwier_hardening.specs.Hardening.{is_marked_pie, is_named, is_pie};
+ghost use Rattle.nugwier_hardening.specs.Hardening.{is_stripped};
+ghost use Rattle.nugwier_hardening.specs.Hardening.{is_unsafe_folder, is_unsafe_path, is_writable_code, judged_said};
+ghost use Rattle.nugwier_hardening.specs.Hardening.{kind_of, known_entries, lack_said, of_section, of_segment};
+ghost use Rattle.nugwier_hardening.specs.Hardening.{path_at, path_in, path_lost, path_missed, path_of};
+ghost use Rattle.nugwier_hardening.specs.Hardening.{path_unread};
+ghost use Rattle.nugwier_hardening.specs.Hardening.{properties_of, properties_unread, property_section};
+ghost use Rattle.nugwier_hardening.specs.Hardening.{property_segment, relro_of, stack_of, symbols_of};
+ghost use Rattle.nugwier_taking.specs.Read.{fault_said, if_read};
+ghost use Rattle.nugwier_taking.specs.Whole.{file_of};
+ghost use Rattle.nugwier_hardening.specs.inner.Dynamic.{entries_view};
+ghost use Rattle.nugwier_hardening.specs.inner.Hardening.{headers_view, link_view, property_view, tables_said};
+ghost use Rattle.nugwier_hardening.specs.inner.Hardening.{tables_view};
+ghost use Rattle.nugwier_report.specs.Hardening.{paths_view};
+ghost use Rattle.nugwier_notes.specs.Properties.{feature_type};
+ghost use Rattle.nugwier_report.specs.Said.{saying, whole};
+ghost use Rattle.nugwier_words.specs.Words.{task_of};
+
+use crate::dynamic::{DynamicEntries, FoundEntries, found_strings, take_dynamic};
+use elf::dynamic::Dyn;
+use elf::endian::EndianParse;
+use elf::file::Class;
+use elf::headers::Headers;
+use elf::note::{Note, NoteIterator};
+use elf::reader::Reader;
+use elf::section::SectionHeader;
+use elf::segment::ProgramHeader;
+use elf::string_table::TerminatedStrings;
+use elf::symbol::{Symbol, SymbolTable};
+use elf::{ParseError, abi};
+use elf_check::notes::note_align;
+use elf_dynamic::dynamic_view::has_tag;
+use elf_linking::needed;
+use nugwier_notes::properties::{feature_type, is_property_note, number_in, padded, property_at};
+use nugwier_report::hardening::{
+    FileKind, Hardening, Relro, Requirement, SearchPaths, say_hardening,
+};
+use nugwier_report::problem::{Fault, Item, Part, Stop};
+use nugwier_report::report::Report;
+use nugwier_taking::headings::known_names;
+use nugwier_taking::linked::linked_symbols;
+use nugwier_taking::listed::ListedFile;
+use nugwier_taking::named::first_named;
+use nugwier_taking::taking;
+use nugwier_taking::taking::{FoundSymbols, NotTaken, Symbols};
+use nugwier_words::words::Job;
+use nugwier_writing::slices::rest_of;
+use std::alloc::{AllocError, Global};
+use std::io::Write;
+
+/// Bytes of notes that have the properties of code, and the alignment that they declare.
+#[derive(Drop)]
+pub struct PropertyBytes<'f> {
+    part: Part,
+    align: u64,
+    bytes: Result<&'f [u8], ParseError>,
+}
+
+/// The headers of a file that say how it is hardened.
+#[derive(Clone, Copy)]
+pub struct HeaderLists<'f> {
+    e_type: u16,
+    machine: u16,
+    segments: &'f [ProgramHeader],
+    sections: &'f [SectionHeader],
+}
+
+/// What is taken of a file to say how it is hardened, and what is required of it.
+#[derive(Drop)]
+pub struct HardeningTables<'f, 'w, E: EndianParse> {
+    requirements: &'w [Requirement],
+    headers: HeaderLists<'f>,
+    order: E,
+    class: Class,
+    entries: FoundEntries<'f>,
+    symbols: (Part, FoundSymbols<'f, E>),
+    properties: Option<PropertyBytes<'f>>,
+}
+
+/// Takes what is needed of a file.
+pub fn take_hardening<'f, 'w, E: EndianParse, R: ListedFile<E>>(
+    alloc: Global,
+    job: &'w Job<'w>,
+    file: &'f R,
+) -> Result<HardeningTables<'f, 'w, E>, NotTaken>
+    ensures requirements { IfOk result (λ t. t.requirements.now ≡ (task_of job.now).requirements) }
+    ensures tables { let header = R.header file.now in IfOk result (λ t. tables_view E.little t
+        ≡ hardened header.e_type header.e_machine (file_of (R.file file.now) (R.bytes file.now))) }
+{
+    let headers = headers_of(file);
+    let entries = take_dynamic(alloc, file)?;
+    let symbols = take_symbols(file)?;
+    let properties = take_properties(file)?;
+    Ok(HardeningTables {
+        requirements: job.requirements.as_slice(),
+        headers,
+        order: file.endianness(),
+        class: file.class(),
+        entries,
+        symbols,
+        properties,
+    })
+}
+
+/// Takes what a file is.
+pub fn take_kind<E: EndianParse, R: ListedFile<E>>(
+    alloc: Global,
+    file: &R,
+) -> Result<Option<FileKind>, NotTaken>
+    ensures { let header = R.header file.now in IfOk result (λ kind. kind
+        ≡ kind_of header.e_type header.e_machine (file_of (R.file file.now) (R.bytes file.now))) }
+{
+    let e_type = file.file_header().e_type;
+    let segments = file.segment_list();
+    // without the strings that the entries name
+    match taking::dynamic(file)? {
+        Ok(Some(table)) => {
+            let entries = needed::entries_in(alloc, &table)?;
+            Ok(file_kind(e_type, segments, Some(entries.as_slice())))
+        }
+        Ok(None) => Ok(file_kind(e_type, segments, Some(&[]))),
+        Err(_) => Ok(file_kind(e_type, segments, None)),
+    }
+}
+
+fn headers_of<'f, E: EndianParse, R: ListedFile<E>>(file: &'f R) -> HeaderLists<'f>
+    ensures { let header = R.header file.now in headers_view result
+        ≡ headers_of header.e_type header.e_machine (file_of (R.file file.now) (R.bytes file.now)) }
+{
+    let header = file.file_header();
+    HeaderLists {
+        e_type: header.e_type,
+        machine: header.e_machine,
+        segments: file.segment_list(),
+        sections: file.section_list(),
+    }
+}
+
+// The symbols for dynamic linking, or if there are none all symbols.
+fn take_symbols<'f, E: EndianParse, R: ListedFile<E>>(
+    file: &'f R,
+) -> Result<(Part, FoundSymbols<'f, E>), NotTaken>
+    ensures { IfOk result (λ found. (found.0, ok_map (option_map symbols_view) found.1)
+        ≡ symbols_of (file_of (R.file file.now) (R.bytes file.now))) }
+{
+    match linked_symbols(file)? {
+        Ok(None) => Ok((Part::Symbols, taking::symbols(file)?)),
+        Ok(Some(symbols)) => Ok((Part::DynamicSymbols, Ok(Some(symbols)))),
+        Err(fault) => Ok((Part::DynamicSymbols, Err(fault))),
+    }
+}
+
+// The notes with the properties of code, by the segments or by the name of their section.
+fn take_properties<'f, E: EndianParse, R: ListedFile<E>>(
+    file: &'f R,
+) -> Result<Option<PropertyBytes<'f>>, NotTaken>
+    ensures { IfOk result (λ found. option_map property_view found
+        ≡ properties_of (file_of (R.file file.now) (R.bytes file.now))) }
+{
+    if let Some((number, segment)) = property_segment(file.segment_list()) {
+        return Ok(Some(take_segment(file, number, &segment)?));
+    }
+    match property_section(file)? {
+        Some((number, section)) => Ok(Some(take_section(file, number, &section)?)),
+        None => Ok(None),
+    }
+}
+
+fn property_segment(segments: &[ProgramHeader]) -> Option<(usize, ProgramHeader)>
+    ensures { result ≡ property_segment segments.now }
+{
+    segments
+        .iter()
+        .copied()
+        .enumerate()
+        .find(|one| has_type(abi::PT_GNU_PROPERTY, &one.1))
+}
+
+fn take_segment<'f, E: EndianParse, R: ListedFile<E>>(
+    file: &'f R,
+    number: usize,
+    segment: &ProgramHeader,
+) -> Result<PropertyBytes<'f>, NotTaken>
+    ensures { IfOk result (λ found. property_view found
+        ≡ of_segment (file_of (R.file file.now) (R.bytes file.now)) (number, segment.now)) }
+{
+    let bytes = taking::segment_data(file, segment)?;
+    Ok(PropertyBytes {
+        part: Part::Segment(number as u64),
+        align: segment.p_align,
+        bytes,
+    })
+}
+
+fn property_section<E: EndianParse, R: ListedFile<E>>(
+    file: &R,
+) -> Result<Option<(usize, SectionHeader)>, NotTaken>
+    ensures { IfOk result (λ found. found ≡ property_section (file_of (R.file file.now) (R.bytes file.now))) }
+{
+    let names = known_names(file)?;
+    Ok(first_named(file.section_list(), &names, ".note.gnu.property"))
+}
+
+fn take_section<'f, E: EndianParse, R: ListedFile<E>>(
+    file: &'f R,
+    number: usize,
+    section: &SectionHeader,
+) -> Result<PropertyBytes<'f>, NotTaken>
+    ensures { IfOk result (λ found. property_view found
+        ≡ of_section (file_of (R.file file.now) (R.bytes file.now)) (number, section.now)) }
+{
+    let bytes = taking::content(file, section)?;
+    Ok(PropertyBytes {
+        part: Part::Section(number as u64),
+        align: section.sh_addralign,
+        bytes,
+    })
+}
+
+/// Says what cannot be read of the file of this path, how it is hardened, and what it lacks.
+pub fn say_hardened<E: EndianParse, W: Write, V: Write>(
+    alloc: Global,
+    path: &str,
+    tables: HardeningTables<'_, '_, E>,
+    report: &mut Report<'_, W, V>,
+) -> Result<(), Stop>
+    ensures { OnOk result (report.new ≡ saying report.old (tables_said E.little path.now tables.entry)) }
+{
+    let HardeningTables {
+        requirements,
+        headers,
+        order,
+        class,
+        entries,
+        symbols,
+        properties,
+    } = tables;
+    let known = known_entries(alloc, entries, report)?;
+    let rpath = found_path(abi::DT_RPATH, &known, report)?;
+    let runpath = found_path(abi::DT_RUNPATH, &known, report)?;
+    let symbols = known_symbols(symbols, report)?;
+    let features = known_features(order, class, headers.machine, properties, report)?;
+    let paths = SearchPaths { rpath, runpath };
+    let entries = entries_in(&known);
+    let hardening = hardening_by(alloc, headers, entries, paths, &symbols, features)?;
+    say_judged(path, requirements, &hardening, paths, report)
+}
+
+// How a file is hardened, with these dynamic entries and search paths, these symbols and these features.
+fn hardening_by<E: EndianParse>(
+    alloc: Global,
+    headers: HeaderLists<'_>,
+    entries: Option<&[Dyn]>,
+    paths: SearchPaths<'_>,
+    symbols: &Option<Symbols<'_, E>>,
+    features: Option<u64>,
+) -> Result<Hardening, AllocError>
+    ensures { IfOk result (λ h. h ≡ hardening_by (headers_view headers.entry) (option_copied entries.entry)
+        (paths_view paths.entry) (option_map symbols_view symbols.now) features) }
+{
+    let binds_now = is_bound_now(entries);
+    let is_path_unsafe = unsafe_path(alloc, entries, paths)?;
+    Ok(Hardening {
+        machine: headers.machine,
+        kind: file_kind(headers.e_type, headers.segments, entries),
+        relro: relro_of(headers.segments, binds_now),
+        binds_now,
+        has_nx: stack_of(headers.e_type, headers.segments),
+        writable_code: count_writable_code(headers.segments),
+        has_canary: has_canary(symbols),
+        fortified: count_fortified(symbols),
+        fortifiable: count_fortifiable(symbols),
+        is_path_unsafe,
+        features,
+        is_stripped: is_stripped(headers.sections),
+    })
+}
+
+// Says how a file is hardened, and what it lacks.
+fn say_judged<W: Write, V: Write>(
+    path: &str,
+    requirements: &[Requirement],
+    hardening: &Hardening,
+    paths: SearchPaths<'_>,
+    report: &mut Report<'_, W, V>,
+) -> Result<(), Stop>
+    ensures { OnOk result (report.new ≡ saying report.old
+        (judged_said path.now requirements.now hardening.now (paths_view paths.entry))) }
+{
+    say_hardening(path, hardening, paths, report)?;
+    say_lacks(requirements, hardening, report)
+}
+
+fn say_lacks<W: Write, V: Write>(
+    requirements: &[Requirement],
+    hardening: &Hardening,
+    report: &mut Report<'_, W, V>,
+) -> Result<(), Stop>
+    ensures { OnOk result (report.new ≡ saying report.old (flat_map (lack_said hardening.now) requirements.now)) }
+{
+    for requirement in requirements {
+        say_lack(*requirement, hardening, report)?;
+    }
+    Ok(())
+}
+
+fn say_lack<W: Write, V: Write>(
+    requirement: Requirement,
+    hardening: &Hardening,
+    report: &mut Report<'_, W, V>,
+) -> Result<(), Stop>
+    ensures { OnOk result (report.new ≡ saying report.old (lack_said hardening.now requirement)) }
+{
+    if requirement.is_met(hardening) {
+        return Ok(());
+    }
+    report.problem(Part::File.whole(), Fault::Lacks(requirement))
+}
+
+// ---- segments
+
+fn has_type(p_type: u32, segment: &ProgramHeader) -> bool
+    ensures { result ≡ has_type p_type segment.now }
+{
+    segment.p_type == p_type
+}
+
+fn has_segment(p_type: u32, segments: &[ProgramHeader]) -> bool
+    ensures { result ≡ list_any (has_type p_type) segments.now }
+{
+    segments.iter().any(|segment| has_type(p_type, segment))
+}
+
+fn is_writable_code(segment: &ProgramHeader) -> bool
+    ensures { result ≡ is_writable_code segment.now }
+{
+    let flags = segment.p_flags;
+    has_type(abi::PT_LOAD, segment) && flags & abi::PF_W != 0 && flags & abi::PF_X != 0
+}
+
+fn count_writable_code(segments: &[ProgramHeader]) -> u64
+    ensures { result ≡ length (filter is_writable_code segments.now) }
+{
+    segments
+        .iter()
+        .filter(|segment| is_writable_code(*segment))
+        .count() as u64
+}
+
+fn is_executable_stack(segment: &ProgramHeader) -> bool
+    ensures { result ≡ is_executable_stack segment.now }
+{
+    has_type(abi::PT_GNU_STACK, segment) && segment.p_flags & abi::PF_X != 0
+}
+
+fn has_executable_stack(segments: &[ProgramHeader]) -> bool
+    ensures { result ≡ list_any is_executable_stack segments.now }
+{
+    segments.iter().any(is_executable_stack)
+}
+
+// Whether the stack is not executable, of a program or a shared object.
+fn stack_of(e_type: u16, segments: &[ProgramHeader]) -> Option<bool>
+    ensures { result ≡ stack_of e_type segments.now }
+{
+    if e_type == abi::ET_EXEC || e_type == abi::ET_DYN {
+        let is_asked_for = has_segment(abi::PT_GNU_STACK, segments);
+        Some(is_asked_for && !has_executable_stack(segments))
+    } else {
+        None
+    }
+}
+
+fn has_symbols(section: &SectionHeader) -> bool
+    ensures { result ≡ has_symbols section.now }
+{
+    section.sh_type == abi::SHT_SYMTAB
+}
+
+fn has_symbol_table(sections: &[SectionHeader]) -> bool
+    ensures { result ≡ list_any has_symbols sections.now }
+{
+    sections.iter().any(has_symbols)
+}
+
+fn is_stripped(sections: &[SectionHeader]) -> bool
+    ensures { result ≡ is_stripped sections.now }
+{
+    !has_symbol_table(sections)
+}
+
+// ---- dynamic entries
+
+// Dynamic entries, with their strings if these were found.
+#[derive(Drop)]
+struct LinkEntries<'f> {
+    entries: Vec<Dyn>,
+    strings: Option<TerminatedStrings<'f>>,
+}
+
+// The entries, if they can be read. A file without any has no entries.
+fn known_entries<'f, W: Write, V: Write>(
+    alloc: Global,
+    found: FoundEntries<'f>,
+    report: &mut Report<'_, W, V>,
+) -> Result<Option<LinkEntries<'f>>, Stop>
+    ensures known { IfOk result (λ known. option_map link_view known
+        ≡ known_entries (ok_map (option_map entries_view) found.entry)) }
+    ensures wrong { OnOk result (report.new ≡ saying report.old
+        (entries_unread (ok_map (option_map entries_view) found.entry))) }
+{
+    match found {
+        Ok(
+            Some(
+                DynamicEntries {
+                    machine: _,
+                    entries,
+                    strings,
+                },
+            ),
+        ) => {
+            let strings = found_strings(strings, report)?;
+            Ok(Some(LinkEntries { entries, strings }))
+        }
+        Ok(None) => Ok(Some(LinkEntries {
+            entries: Vec::new(alloc),
+            strings: None,
+        })),
+        Err(error) => {
+            report.problem(Part::Dynamic.whole(), Fault::Read(error))?;
+            Ok(None)
+        }
+    }
+}
+
+fn entries_in<'a>(known: &'a Option<LinkEntries<'_>>) -> Option<&'a [Dyn]>
+    ensures { option_copied result ≡ option_map (λ k. k.0) (option_map link_view known.now) }
+{
+    match known {
+        Some(known) => Some(known.entries.as_slice()),
+        None => None,
+    }
+}
+
+// Whether an entry has this tag, and its number a bit of the mask.
+fn has_flag(tag: i64, mask: u64, entry: &Dyn) -> bool
+    ensures { result ≡ has_flag tag mask entry.now }
+{
+    has_tag(entry, tag) && entry.d_val() & mask != 0
+}
+
+fn binds_now(entry: &Dyn) -> bool
+    ensures { result ≡ binds_now entry.now }
+{
+    has_tag(entry, abi::DT_BIND_NOW)
+        || has_flag(abi::DT_FLAGS, abi::DF_BIND_NOW as u64, entry)
+        || has_flag(abi::DT_FLAGS_1, abi::DF_1_NOW as u64, entry)
+}
+
+fn any_binds_now(entries: &[Dyn]) -> bool
+    ensures { result ≡ list_any binds_now entries.now }
+{
+    entries.iter().any(binds_now)
+}
+
+fn is_bound_now(entries: Option<&[Dyn]>) -> Option<bool>
+    ensures { result ≡ option_map (list_any binds_now) (option_copied entries.entry) }
+{
+    match entries {
+        Some(entries) => Some(any_binds_now(entries)),
+        None => None,
+    }
+}
+
+fn is_marked_pie(entry: &Dyn) -> bool
+    ensures { result ≡ is_marked_pie entry.now }
+{
+    has_flag(abi::DT_FLAGS_1, abi::DF_1_PIE as u64, entry)
+}
+
+// Whether a file is a program at any address: by its flag or, of linkers before that flag, by an entry that no library
+// has.
+fn is_pie(has_interpreter: bool, entries: &[Dyn]) -> bool
+    ensures { result ≡ is_pie has_interpreter entries.now }
+{
+    let is_program = has_interpreter && is_debugged(entries);
+    has_marked_pie(entries) || is_program
+}
+
+fn has_marked_pie(entries: &[Dyn]) -> bool
+    ensures { result ≡ list_any is_marked_pie entries.now }
+{
+    entries.iter().any(is_marked_pie)
+}
+
+fn is_debugged(entries: &[Dyn]) -> bool
+    ensures { result ≡ list_any (has_tag dt_debug) entries.now }
+{
+    entries.iter().any(|entry| has_tag(entry, abi::DT_DEBUG))
+}
+
+fn dynamic_kind(has_interpreter: bool, entries: &[Dyn]) -> FileKind
+    ensures { result ≡ dynamic_kind has_interpreter entries.now }
+{
+    match (is_pie(has_interpreter, entries), has_interpreter) {
+        (true, true) => FileKind::Pie,
+        (true, false) => FileKind::StaticPie,
+        (false, _) => FileKind::SharedObject,
+    }
+}
+
+// What a file of this type is.
+fn file_kind(e_type: u16, segments: &[ProgramHeader], entries: Option<&[Dyn]>) -> Option<FileKind>
+    ensures { result ≡ file_kind e_type segments.now (option_copied entries.entry) }
+{
+    match e_type {
+        abi::ET_EXEC => Some(FileKind::Executable),
+        abi::ET_REL => Some(FileKind::Relocatable),
+        abi::ET_CORE => Some(FileKind::Core),
+        abi::ET_DYN => {
+            let has_interpreter = has_segment(abi::PT_INTERP, segments);
+            Some(dynamic_kind(has_interpreter, entries?))
+        }
+        _ => None,
+    }
+}
+
+// What is only read after relocations: all of it, if all symbols are bound before.
+fn relro_of(segments: &[ProgramHeader], binds_now: Option<bool>) -> Option<Relro>
+    ensures { result ≡ relro_of segments.now binds_now }
+{
+    if !has_segment(abi::PT_GNU_RELRO, segments) {
+        return Some(Relro::Nothing);
+    }
+    match binds_now {
+        Some(true) => Some(Relro::Full),
+        Some(false) => Some(Relro::Partial),
+        None => None,
+    }
+}
+
+// ---- search paths
+
+// The string of the first entry with a tag, if there is one and it can be read.
+fn found_path<'f, W: Write, V: Write>(
+    tag: i64,
+    known: &Option<LinkEntries<'f>>,
+    report: &mut Report<'_, W, V>,
+) -> Result<Option<&'f [u8]>, Stop>
+    ensures path { IfOk result (λ path. option_copied path ≡ path_in tag (option_map link_view known.now)) }
+    ensures wrong { OnOk result (report.new ≡ saying report.old (path_missed tag (option_map link_view known.now))) }
+{
+    let Some(known) = known else {
+        return Ok(None);
+    };
+    let Some(strings) = &known.strings else {
+        return Ok(None);
+    };
+    let entries = known.entries.as_slice();
+    path_at(strings, entries, first_tagged(tag, entries), report)
+}
+
+// The number of the first entry with a tag.
+fn first_tagged(tag: i64, entries: &[Dyn]) -> Option<usize>
+    ensures { result ≡ first_tagged tag entries.now }
+{
+    entries.iter().position(|entry| has_tag(entry, tag))
+}
+
+fn path_at<'f, W: Write, V: Write>(
+    strings: &TerminatedStrings<'f>,
+    entries: &[Dyn],
+    number: Option<usize>,
+    report: &mut Report<'_, W, V>,
+) -> Result<Option<&'f [u8]>, Stop>
+    ensures path { IfOk result (λ path. option_copied path ≡ path_at strings.now entries.now number) }
+    ensures wrong { OnOk result (report.new ≡ saying report.old (path_unread strings.now entries.now number)) }
+{
+    let Some(number) = number else {
+        return Ok(None);
+    };
+    match entry_at(entries, number) {
+        Some(entry) => path_of(strings, number, entry, report),
+        None => Ok(None),
+    }
+}
+
+fn entry_at(entries: &[Dyn], number: usize) -> Option<&Dyn>
+    ensures { option_map (λ entry. entry.now) result ≡ slice_get entries.now number }
+{
+    entries.get(number)
+}
+
+// The string of an entry with this number, if it can be read.
+fn path_of<'f, W: Write, V: Write>(
+    strings: &TerminatedStrings<'f>,
+    number: usize,
+    entry: &Dyn,
+    report: &mut Report<'_, W, V>,
+) -> Result<Option<&'f [u8]>, Stop>
+    ensures path { IfOk result (λ path. option_copied path ≡ path_of strings.now (Some entry.now)) }
+    ensures wrong { OnOk result (report.new ≡ saying report.old
+        (path_lost strings.now number (Some entry.now))) }
+{
+    let place = Part::Dynamic.item(Item::EntryName(number as u64));
+    report.readable(place, strings.get_raw(entry.d_val() as usize))
+}
+
+// Whether a folder is neither absolute nor beside the file.
+fn is_unsafe_folder(folder: &[u8]) -> bool
+    ensures { result ≡ is_unsafe_folder folder.now }
+{
+    !(folder.starts_with(b"/")
+        || folder.starts_with(b"$ORIGIN")
+        || folder.starts_with(b"${ORIGIN}"))
+}
+
+// The folders of a path, which have colons between them.
+fn folders<'a>(alloc: Global, path: &'a [u8]) -> Result<Vec<&'a [u8]>, AllocError>
+    ensures { IfOk result (λ folders. map (λ folder. folder.now) folders.items
+        ≡ slice_split (λ b. b == 58) path.now) }
+{
+    path.split(|byte| *byte == b':').collect(alloc)
+}
+
+fn is_any_unsafe(folders: &[&[u8]]) -> bool
+    ensures { result ≡ list_any is_unsafe_folder (map (λ folder. folder.now) folders.now) }
+{
+    for folder in folders {
+        if is_unsafe_folder(*folder) {
+            return true;
+        }
+    }
+    false
+}
+
+// An empty path has no folders.
+fn is_unsafe_path(alloc: Global, path: Option<&[u8]>) -> Result<bool, AllocError>
+    ensures { IfOk result (λ is_unsafe. is_unsafe ≡ is_unsafe_path (option_copied path.entry)) }
+{
+    match path {
+        Some(path) if !path.is_empty() => {
+            let folders = folders(alloc, path)?;
+            Ok(is_any_unsafe(folders.as_slice()))
+        }
+        _ => Ok(false),
+    }
+}
+
+fn unsafe_path(
+    alloc: Global,
+    entries: Option<&[Dyn]>,
+    paths: SearchPaths<'_>,
+) -> Result<Option<bool>, AllocError>
+    ensures { IfOk result (λ is_unsafe. is_unsafe
+        ≡ option_map (λ _. has_unsafe_path (paths_view paths.entry)) (option_copied entries.entry)) }
+{
+    if entries.is_none() {
+        return Ok(None);
+    }
+    let rpath = is_unsafe_path(alloc, paths.rpath)?;
+    let runpath = is_unsafe_path(alloc, paths.runpath)?;
+    Ok(Some(rpath || runpath))
+}
+
+// ---- symbols
+
+// The symbols, if they can be read.
+fn known_symbols<'f, E: EndianParse, W: Write, V: Write>(
+    symbols: (Part, FoundSymbols<'f, E>),
+    report: &mut Report<'_, W, V>,
+) -> Result<Option<Symbols<'f, E>>, Stop>
+    ensures symbols { IfOk result (λ known. option_map symbols_view known
+        ≡ if_read (ok_map (option_map symbols_view) symbols.entry.1)) }
+    ensures wrong { OnOk result (report.new ≡ saying report.old
+        (fault_said (whole symbols.entry.0) (ok_map (option_map symbols_view) symbols.entry.1))) }
+{
+    let (part, symbols) = symbols;
+    match symbols {
+        Ok(symbols) => Ok(symbols),
+        Err(fault) => {
+            report.problem(part.whole(), fault)?;
+            Ok(None)
+        }
+    }
+}
+
+/// Names of symbols that functions with a canary use: the function that is called if it was changed, the canary itself,
+/// and that of Intel's compiler.
+pub const CANARIES: &[&str] = &[
+    "__stack_chk_fail",
+    "__stack_chk_guard",
+    "__intel_security_cookie",
+];
+
+/// Functions of the GNU C library, each with the one that also checks the size of its buffer.
+pub const FORTIFIED: &[(&str, &str)] = &[
+    ("asprintf", "__asprintf_chk"),
+    ("confstr", "__confstr_chk"),
+    ("dprintf", "__dprintf_chk"),
+    ("explicit_bzero", "__explicit_bzero_chk"),
+    ("fdelt", "__fdelt_chk"),
+    ("fgets", "__fgets_chk"),
+    ("fgets_unlocked", "__fgets_unlocked_chk"),
+    ("fgetws", "__fgetws_chk"),
+    ("fgetws_unlocked", "__fgetws_unlocked_chk"),
+    ("fprintf", "__fprintf_chk"),
+    ("fread", "__fread_chk"),
+    ("fread_unlocked", "__fread_unlocked_chk"),
+    ("fwprintf", "__fwprintf_chk"),
+    ("getcwd", "__getcwd_chk"),
+    ("getdomainname", "__getdomainname_chk"),
+    ("getgroups", "__getgroups_chk"),
+    ("gethostname", "__gethostname_chk"),
+    ("getlogin_r", "__getlogin_r_chk"),
+    ("gets", "__gets_chk"),
+    ("getwd", "__getwd_chk"),
+    ("longjmp", "____longjmp_chk"),
+    ("mbsnrtowcs", "__mbsnrtowcs_chk"),
+    ("mbsrtowcs", "__mbsrtowcs_chk"),
+    ("mbstowcs", "__mbstowcs_chk"),
+    ("memcpy", "__memcpy_chk"),
+    ("memmove", "__memmove_chk"),
+    ("mempcpy", "__mempcpy_chk"),
+    ("memset", "__memset_chk"),
+    ("obstack_printf", "__obstack_printf_chk"),
+    ("obstack_vprintf", "__obstack_vprintf_chk"),
+    ("poll", "__poll_chk"),
+    ("ppoll", "__ppoll_chk"),
+    ("pread", "__pread_chk"),
+    ("pread64", "__pread64_chk"),
+    ("printf", "__printf_chk"),
+    ("ptsname_r", "__ptsname_r_chk"),
+    ("read", "__read_chk"),
+    ("readlink", "__readlink_chk"),
+    ("readlinkat", "__readlinkat_chk"),
+    ("realpath", "__realpath_chk"),
+    ("recv", "__recv_chk"),
+    ("recvfrom", "__recvfrom_chk"),
+    ("snprintf", "__snprintf_chk"),
+    ("sprintf", "__sprintf_chk"),
+    ("stpcpy", "__stpcpy_chk"),
+    ("stpncpy", "__stpncpy_chk"),
+    ("strcat", "__strcat_chk"),
+    ("strcpy", "__strcpy_chk"),
+    ("strlcat", "__strlcat_chk"),
+    ("strlcpy", "__strlcpy_chk"),
+    ("strncat", "__strncat_chk"),
+    ("strncpy", "__strncpy_chk"),
+    ("swprintf", "__swprintf_chk"),
+    ("syslog", "__syslog_chk"),
+    ("ttyname_r", "__ttyname_r_chk"),
+    ("vasprintf", "__vasprintf_chk"),
+    ("vdprintf", "__vdprintf_chk"),
+    ("vfprintf", "__vfprintf_chk"),
+    ("vfwprintf", "__vfwprintf_chk"),
+    ("vprintf", "__vprintf_chk"),
+    ("vsnprintf", "__vsnprintf_chk"),
+    ("vsprintf", "__vsprintf_chk"),
+    ("vswprintf", "__vswprintf_chk"),
+    ("vsyslog", "__vsyslog_chk"),
+    ("vwprintf", "__vwprintf_chk"),
+    ("wcpcpy", "__wcpcpy_chk"),
+    ("wcpncpy", "__wcpncpy_chk"),
+    ("wcrtomb", "__wcrtomb_chk"),
+    ("wcscat", "__wcscat_chk"),
+    ("wcscpy", "__wcscpy_chk"),
+    ("wcslcat", "__wcslcat_chk"),
+    ("wcslcpy", "__wcslcpy_chk"),
+    ("wcsncat", "__wcsncat_chk"),
+    ("wcsncpy", "__wcsncpy_chk"),
+    ("wcsnrtombs", "__wcsnrtombs_chk"),
+    ("wcsrtombs", "__wcsrtombs_chk"),
+    ("wcstombs", "__wcstombs_chk"),
+    ("wctomb", "__wctomb_chk"),
+    ("wmemcpy", "__wmemcpy_chk"),
+    ("wmemmove", "__wmemmove_chk"),
+    ("wmempcpy", "__wmempcpy_chk"),
+    ("wmemset", "__wmemset_chk"),
+    ("wprintf", "__wprintf_chk"),
+];
+
+// Whether the name of a symbol, if it can be read, is this.
+fn has_name(strings: &TerminatedStrings<'_>, symbol: &Symbol, name: &str) -> bool
+    ensures { result ≡ is_string name.now (string_at strings.now symbol.now.st_name) }
+{
+    match strings.is(symbol.st_name as usize, name.as_bytes()) {
+        Ok(is_same) => is_same,
+        Err(_) => false,
+    }
+}
+
+fn is_canary(strings: &TerminatedStrings<'_>, symbol: &Symbol) -> bool
+    ensures { result ≡ is_canary strings.now symbol.now }
+{
+    CANARIES.iter().any(|name| has_name(strings, symbol, *name))
+}
+
+// Whether the name of a symbol is the second one of a pair.
+fn is_second(pairs: &[(&str, &str)], strings: &TerminatedStrings<'_>, symbol: &Symbol) -> bool
+    ensures { result ≡ is_named strings.now symbol.now (map (λ pair. pair.1.now) pairs.now) }
+{
+    for pair in pairs {
+        if has_name(strings, symbol, pair.1) {
+            return true;
+        }
+    }
+    false
+}
+
+// Whether the name of a symbol is the first one of a pair.
+fn is_first(pairs: &[(&str, &str)], strings: &TerminatedStrings<'_>, symbol: &Symbol) -> bool
+    ensures { result ≡ is_named strings.now symbol.now (map (λ pair. pair.0.now) pairs.now) }
+{
+    for pair in pairs {
+        if has_name(strings, symbol, pair.0) {
+            return true;
+        }
+    }
+    false
+}
+
+fn is_fortified(strings: &TerminatedStrings<'_>, symbol: &Symbol) -> bool
+    ensures { result ≡ is_fortified strings.now symbol.now }
+{
+    symbol.is_undefined() && is_second(FORTIFIED, strings, symbol)
+}
+
+fn is_fortifiable(strings: &TerminatedStrings<'_>, symbol: &Symbol) -> bool
+    ensures { result ≡ is_fortifiable strings.now symbol.now }
+{
+    symbol.is_undefined() && is_first(FORTIFIED, strings, symbol)
+}
+
+fn any_canary<E: EndianParse>(table: &SymbolTable<'_, E>, strings: &TerminatedStrings<'_>) -> bool
+    ensures { result ≡ list_any (is_canary strings.now) (table_items symbol_reads (table_view table.now)) }
+{
+    table.iter().any(|symbol| is_canary(strings, &symbol))
+}
+
+fn fortified_in<E: EndianParse>(
+    table: &SymbolTable<'_, E>,
+    strings: &TerminatedStrings<'_>,
+) -> usize
+    ensures { result ≡ length (filter (is_fortified strings.now)
+        (table_items symbol_reads (table_view table.now))) }
+{
+    table
+        .iter()
+        .filter(|symbol| is_fortified(strings, symbol))
+        .count()
+}
+
+fn fortifiable_in<E: EndianParse>(
+    table: &SymbolTable<'_, E>,
+    strings: &TerminatedStrings<'_>,
+) -> usize
+    ensures { result ≡ length (filter (is_fortifiable strings.now)
+        (table_items symbol_reads (table_view table.now))) }
+{
+    table
+        .iter()
+        .filter(|symbol| is_fortifiable(strings, symbol))
+        .count()
+}
+
+fn has_canary<E: EndianParse>(symbols: &Option<Symbols<'_, E>>) -> Option<bool>
+    ensures { result ≡ any_symbol is_canary (option_map symbols_view symbols.now) }
+{
+    match symbols {
+        Some((table, strings)) => Some(any_canary(table, &TerminatedStrings::new(strings))),
+        None => None,
+    }
+}
+
+fn count_fortified<E: EndianParse>(symbols: &Option<Symbols<'_, E>>) -> Option<u64>
+    ensures { result ≡ count_symbols is_fortified (option_map symbols_view symbols.now) }
+{
+    match symbols {
+        Some((table, strings)) => {
+            Some(fortified_in(table, &TerminatedStrings::new(strings)) as u64)
+        }
+        None => None,
+    }
+}
+
+fn count_fortifiable<E: EndianParse>(symbols: &Option<Symbols<'_, E>>) -> Option<u64>
+    ensures { result ≡ count_symbols is_fortifiable (option_map symbols_view symbols.now) }
+{
+    match symbols {
+        Some((table, strings)) => {
+            Some(fortifiable_in(table, &TerminatedStrings::new(strings)) as u64)
+        }
+        None => None,
+    }
+}
+
+// ---- the properties of code
+
+// The features, if they can be read. It is a problem if notes with properties cannot be read.
+fn known_features<E: EndianParse, W: Write, V: Write>(
+    order: E,
+    class: Class,
+    machine: u16,
+    properties: Option<PropertyBytes<'_>>,
+    report: &mut Report<'_, W, V>,
+) -> Result<Option<u64>, Stop>
+    ensures features { IfOk result (λ features. features
+        ≡ features_by (E.little order) class (feature_type machine) (option_map property_view properties.entry)) }
+    ensures wrong { OnOk result (report.new ≡ saying report.old
+        (properties_unread (option_map property_view properties.entry))) }
+{
+    let features = features_by(order, class, feature_type(machine), &properties);
+    say_unread(properties, report)?;
+    Ok(features)
+}
+
+fn say_unread<W: Write, V: Write>(
+    properties: Option<PropertyBytes<'_>>,
+    report: &mut Report<'_, W, V>,
+) -> Result<(), Stop>
+    ensures { OnOk result (report.new ≡ saying report.old
+        (properties_unread (option_map property_view properties.entry))) }
+{
+    match properties {
+        Some(
+            PropertyBytes {
+                part,
+                align: _,
+                bytes,
+            },
+        ) => match bytes {
+            Ok(_) => Ok(()),
+            Err(error) => report.problem(part.whole(), Fault::Read(error)),
+        },
+        None => Ok(()),
+    }
+}
+
+fn features_by<E: EndianParse>(
+    order: E,
+    class: Class,
+    wanted: Option<u32>,
+    properties: &Option<PropertyBytes<'_>>,
+) -> Option<u64>
+    ensures { result ≡ features_by (E.little order) class wanted (option_map property_view properties.now) }
+{
+    let wanted = wanted?;
+    match properties {
+        None => Some(0),
+        Some(found) => match &found.bytes {
+            Ok(bytes) => Some(features_of(order, class, wanted, found.align, *bytes)),
+            Err(_) => None,
+        },
+    }
+}
+
+// The features in bytes of notes.
+fn features_of<E: EndianParse>(order: E, class: Class, wanted: u32, align: u64, bytes: &[u8]) -> u64
+    ensures { result ≡ features_of (E.little order) class wanted align bytes.now }
+{
+    let notes = NoteIterator::new(order, Class::ELF64, note_align(align as usize), bytes);
+    features_in(order, class, wanted, first_properties(notes))
+}
+
+// The descriptor of the first note with properties.
+fn first_properties<'f, E: EndianParse>(notes: NoteIterator<'f, E>) -> &'f [u8]
+    ensures { result.now ≡ first_properties (notes_left notes.entry) }
+{
+    for note in notes {
+        if let Note::Unknown(note) = note
+            && is_property_note(note.n_type, note.name)
+        {
+            return note.desc;
+        }
+    }
+    &[]
+}
+
+// The number of the first property of a type; 0 if there is none.
+fn features_in<E: EndianParse>(order: E, class: Class, wanted: u32, bytes: &[u8]) -> u64
+    ensures { result ≡ features_in (E.little order) class wanted bytes.now }
+{
+    match feature_in(order, class, wanted, bytes) {
+        Some(features) => features as u64,
+        None => 0,
+    }
+}
+
+fn feature_in<E: EndianParse>(order: E, class: Class, wanted: u32, bytes: &[u8]) -> Option<u32>
+    ensures { result ≡ feature_in (E.little order) class wanted bytes.now bytes.now }
+{
+    let mut rest = bytes;
+    let mut left = bytes;
+    while let Some((_first, others)) = left.split_first() {
+        let Some((kind, size)) = property_at(order, rest) else {
+            return None;
+        };
+        if kind == wanted {
+            return number_in(order, rest, 8);
+        }
+        rest = rest_of(8 + padded(class, size), rest);
+        left = others;
+    }
+    None
+}

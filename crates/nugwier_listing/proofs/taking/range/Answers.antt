@@ -1,5 +1,0 @@
-use Rattle.nugwier_listing.proofs.Taken.{taken_whole}
-use Rattle.nugwier_listing.proofs.taking.range.Goals as goal
-
-pub returns : goal.returns
-returns g c = taken_whole _ _ _ _ _ c.range.ensures.value c.taken.ensures (c.is_part.ensures.part c.args.start c.args.size)

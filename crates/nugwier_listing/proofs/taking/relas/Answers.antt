@@ -1,6 +1,0 @@
-use Rattle.elf.specs.Readers.{SectionDataAsRelas}
-use Rattle.nugwier_listing.proofs.Taken.{taken_whole}
-use Rattle.nugwier_listing.proofs.taking.relas.Goals as goal
-
-pub returns : goal.returns
-returns g c = taken_whole _ _ _ _ _ c.section_data_as_relas.ensures.value c.taken.ensures (c.is_part.ensures.answers (SectionDataAsRelas c.args.shdr.now))

@@ -1,6 +1,0 @@
-use Rattle.elf.specs.Readers.{SegmentData}
-use Rattle.nugwier_listing.proofs.Taken.{taken_whole}
-use Rattle.nugwier_listing.proofs.taking.segment_data.Goals as goal
-
-pub returns : goal.returns
-returns g c = taken_whole _ _ _ _ _ c.segment_data.ensures.value c.taken.ensures (c.is_part.ensures.answers (SegmentData c.args.phdr.now))

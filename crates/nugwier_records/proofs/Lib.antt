@@ -1,0 +1,3 @@
+pub mod ShownVersions
+pub mod FaultsSaid
+pub mod Strings

@@ -1,0 +1,134 @@
+//! What is said of addresses.
+ghost use Rattle.std.specs.Prelude.{◌≡◌, OnOk};
+ghost use Rattle.elf_records.specs.Number.{ok_map};
+ghost use Rattle.elf_records.specs.Table.{table_view};
+ghost use Rattle.nugwier_records.specs.Addresses.{address_kind, address_said, nearest_said, section_content};
+ghost use Rattle.nugwier_records.specs.Addresses.{symbol_name};
+ghost use Rattle.nugwier_writing.specs.Members.{content_of};
+ghost use Rattle.nugwier_report.specs.Said.{saying};
+
+use elf_parts::endian::EndianParse;
+use elf_parts::parse::ParseError;
+use elf_parts::string_table::TerminatedStrings;
+use elf_parts::symbol::SymbolTable;
+use elf_tools::addresses::{Addresses, Nearest};
+use nugwier_report::problem::{Fault, Item, Part, Stop};
+use nugwier_report::quoted::Quoted;
+use nugwier_report::report::Report;
+use nugwier_report::rows::Row;
+use nugwier_writing::json::Value;
+use nugwier_writing::kind::Kind;
+use std::io::Write;
+
+/// The symbols among which that of an address is looked for.
+#[derive(Debug, Drop)]
+pub enum Among<'a> {
+    /// Those of the file.
+    File,
+    /// Those of the section of this number.
+    Section(u64),
+    /// None: no section has this name or this number.
+    NoSection(Quoted<'a>),
+    /// None: an address of a relocatable file is an offset in a section, and none is given.
+    Unknown,
+}
+
+/// An address, and the symbols among which its own is looked for.
+#[derive(Debug, Drop)]
+pub struct PlacedAddress<'a> {
+    pub address: u64,
+    pub among: Among<'a>,
+}
+
+/// An address, with the symbol that starts there or before it.
+#[derive(Drop)]
+pub struct AddressRow<'a, E: EndianParse> {
+    pub symbols: SymbolTable<'a, E>,
+    pub strings: TerminatedStrings<'a>,
+    /// The same symbols by their addresses.
+    pub by_address: Addresses,
+}
+
+impl<'a, E: EndianParse> AddressRow<'a, E> {
+    // The name of a symbol, by its number in the table.
+    fn name_of(&self, number: usize) -> Result<&'a [u8], ParseError>
+        ensures { ok_map (λ name. name.now) result
+            ≡ symbol_name (table_view self.now.symbols) self.now.strings number }
+    {
+        match self.symbols.get(number) {
+            Ok(symbol) => self.strings.get_raw(symbol.st_name as usize),
+            Err(error) => Err(error),
+        }
+    }
+
+    // Says the nearest symbol of an address, if there is one.
+    fn say_nearest<W: Write, V: Write>(
+        &self,
+        one: &PlacedAddress<'_>,
+        nearest: Option<Nearest>,
+        report: &mut Report<'_, W, V>,
+    ) -> Result<(), Stop>
+        ensures { OnOk result (report.new ≡ saying report.old
+            (nearest_said (table_view self.now.symbols) self.now.strings one.now nearest)) }
+    {
+        let part = Part::Address(one.address);
+        let Some(nearest) = nearest else {
+            return report.problem(part.whole(), Fault::NoSymbol);
+        };
+        let name = report.readable(part.item(Item::Name), self.name_of(nearest.symbol))?;
+        let members = [
+            ("address", Value::Number(one.address)),
+            ("symbol", Value::Number(nearest.symbol as u64)),
+            ("name", Value::Text(name)),
+            ("distance", Value::Number(nearest.distance)),
+            ("is_inside", Value::Flag(nearest.is_inside)),
+            ("value", Value::Number(nearest.value)),
+            ("section", section_value(&one.among)),
+        ];
+        report.state(address_kind(nearest.is_inside), &members)
+    }
+}
+
+impl<'a, E: EndianParse> Row for AddressRow<'a, E> {
+    type Item = PlacedAddress<'a>;
+
+    ghost said = { λ row number one. address_said row.by_address (table_view row.symbols) row.strings one };
+
+    fn say<W: Write, V: Write>(
+        &self,
+        _number: u64,
+        one: &PlacedAddress<'a>,
+        report: &mut Report<'_, W, V>,
+    ) -> Result<(), Stop> {
+        let address = one.address;
+        let place = Part::Address(address).whole();
+        match &one.among {
+            Among::File => self.say_nearest(one, self.by_address.find(address), report),
+            Among::Section(number) => {
+                self.say_nearest(one, self.by_address.find_in(*number, address), report)
+            }
+            Among::NoSection(word) => report.problem(place, Fault::NoSection(word.again())),
+            Among::Unknown => report.problem(place, Fault::NeedsSection),
+        }
+    }
+}
+
+// The section that an address is in, if it is looked for in one.
+fn section_value(among: &Among<'_>) -> Value<'static>
+    ensures { content_of result ≡ section_content among.now }
+{
+    match among {
+        Among::Section(number) => Value::Number(*number),
+        _ => Value::Null,
+    }
+}
+
+fn address_kind(is_inside: bool) -> Kind
+    ensures { result ≡ address_kind is_inside }
+{
+    if is_inside {
+        Kind::Inside
+    } else {
+        Kind::PastEnd
+    }
+}

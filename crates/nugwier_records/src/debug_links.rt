@@ -1,0 +1,55 @@
+//! What is said of links to files with debug information.
+ghost use Rattle.std.specs.Prelude.{◌≡◌, OnOk};
+ghost use Rattle.elf_tools.specs.DebugLink.{alt_link_view, link_view};
+ghost use Rattle.nugwier_records.specs.DebugLinks.{alt_link_members, alt_link_said, link_members, link_said};
+ghost use Rattle.nugwier_writing.specs.Members.{members_said};
+ghost use Rattle.nugwier_report.specs.Said.{saying};
+
+use elf_tools::debug_link::{DebugAltLink, DebugLink};
+use nugwier_report::problem::Stop;
+use nugwier_report::report::Report;
+use nugwier_writing::json::{Member, Value};
+use nugwier_writing::kind::Kind;
+use std::io::Write;
+
+/// Says the link of a section, by its number.
+pub fn say_debug_link<W: Write, V: Write>(
+    section: u64,
+    link: DebugLink<'_>,
+    report: &mut Report<'_, W, V>,
+) -> Result<(), Stop>
+    ensures { OnOk result (report.new ≡ saying report.old (link_said section (link_view link.entry))) }
+{
+    report.state(Kind::DebugLink, &link_members(section, link))
+}
+
+fn link_members(section: u64, link: DebugLink<'_>) -> [Member<'_>; 3]
+    ensures { members_said result ≡ link_members section (link_view link.entry) }
+{
+    [
+        ("section", Value::Number(section)),
+        ("name", Value::Text(Some(link.name))),
+        ("crc", Value::Number(link.crc as u64)),
+    ]
+}
+
+/// Says the link of a section to a file that several files share, by its number.
+pub fn say_debug_alt_link<W: Write, V: Write>(
+    section: u64,
+    link: DebugAltLink<'_>,
+    report: &mut Report<'_, W, V>,
+) -> Result<(), Stop>
+    ensures { OnOk result (report.new ≡ saying report.old (alt_link_said section (alt_link_view link.entry))) }
+{
+    report.state(Kind::DebugAltLink, &alt_link_members(section, link))
+}
+
+fn alt_link_members(section: u64, link: DebugAltLink<'_>) -> [Member<'_>; 3]
+    ensures { members_said result ≡ alt_link_members section (alt_link_view link.entry) }
+{
+    [
+        ("section", Value::Number(section)),
+        ("name", Value::Text(Some(link.name))),
+        ("build_id", Value::Bytes(link.build_id)),
+    ]
+}

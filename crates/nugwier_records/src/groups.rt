@@ -1,0 +1,133 @@
+//! What is said of section groups.
+ghost use Rattle.std.specs.Prelude.{◌≡◌, OnOk};
+ghost use Rattle.std.specs.Option.{option_copied};
+ghost use Rattle.elf_names.specs.Flags.{flags_of};
+ghost use Rattle.nugwier_records.specs.Groups.{group_flags, group_members, group_said, group_view, is_section};
+ghost use Rattle.nugwier_records.specs.Groups.{member_members, member_said};
+ghost use Rattle.nugwier_report.specs.Labels.{named_by};
+ghost use Rattle.nugwier_writing.specs.Members.{members_said};
+ghost use Rattle.nugwier_report.specs.Said.{saying};
+
+use elf_names::flags::Flags;
+use elf_parts::endian::EndianParse;
+use elf_parts::parse::{ParseError, ParsingIterator};
+use nugwier_report::names::Labels;
+use nugwier_report::problem::{Fault, Item, Part, Stop};
+use nugwier_report::report::Report;
+use nugwier_report::rows::{Row, say_records};
+use nugwier_writing::json::{Member, Value};
+use nugwier_writing::kind::Kind;
+use std::io::Write;
+
+/// A section group: its flag word, the numbers of its members, and its signature, which is the name of a symbol.
+#[derive(Drop)]
+pub struct Group<'a, E: EndianParse> {
+    pub flags: u32,
+    pub members: ParsingIterator<'a, E, u32>,
+    pub signature: Result<&'a [u8], ParseError>,
+}
+
+/// Flags of section groups (gABI, chapter "Sections", "Section Groups").
+pub const GROUP: Flags = &[(0x1, 0x1, "GRP_COMDAT")];
+
+#[tactic(auto, unfolding(crate::specs::Groups::group_flags))]
+fn group_flags() -> Flags
+    ensures { flags_of result.now ≡ group_flags }
+{
+    GROUP
+}
+
+/// Says the group of a section: that its signature cannot be read, then the group, and each member.
+pub fn say_group<E: EndianParse, W: Write, V: Write>(
+    section: u64,
+    group: Group<'_, E>,
+    labels: &Labels<'_>,
+    report: &mut Report<'_, W, V>,
+) -> Result<(), Stop>
+    ensures { OnOk result (report.new
+        ≡ saying report.old (group_said (named_by labels.now) section (group_view group.entry))) }
+{
+    let Group {
+        flags,
+        members,
+        signature,
+    } = group;
+    let place = Part::Section(section).item(Item::Signature);
+    let signature = report.readable(place, signature)?;
+    report.state(
+        Kind::Group,
+        &group_members(labels, section, flags, signature),
+    )?;
+    say_records(members, &MemberRow { section, labels }, report)
+}
+
+fn group_members<'a>(
+    labels: &Labels<'a>,
+    section: u64,
+    flags: u32,
+    signature: Option<&'a [u8]>,
+) -> [Member<'a>; 5]
+    ensures { members_said result
+        ≡ group_members (named_by labels.now) section flags (option_copied signature.entry) }
+{
+    [
+        ("section", Value::Number(section)),
+        ("name", Value::Text(Some(labels.name_at(section as usize)))),
+        ("flags", Value::Number(flags as u64)),
+        ("flags_names", Value::Flags(group_flags(), flags as u64)),
+        ("signature", Value::Text(signature)),
+    ]
+}
+
+// A member of the group of a section.
+#[derive(Drop)]
+struct MemberRow<'a> {
+    section: u64,
+    labels: &'a Labels<'a>,
+}
+
+impl Row for MemberRow<'_> {
+    type Item = u32;
+
+    ghost said = { λ row number member. member_said (named_by row.labels.now) row.section number member };
+
+    fn say<W: Write, V: Write>(
+        &self,
+        number: u64,
+        member: &u32,
+        report: &mut Report<'_, W, V>,
+    ) -> Result<(), Stop> {
+        if is_section(self.labels, *member) {
+            report.state(
+                Kind::GroupMember,
+                &member_members(self.labels, self.section, number, *member),
+            )
+        } else {
+            let place = Part::Section(self.section).item(Item::Member(*member as u64));
+            report.problem(place, Fault::Missing)
+        }
+    }
+}
+
+// Section 0 is none.
+fn is_section(labels: &Labels<'_>, number: u32) -> bool
+    ensures { result ≡ is_section (named_by labels.now) number }
+{
+    number != 0 && (number as usize) < labels.sections.len()
+}
+
+fn member_members<'a>(
+    labels: &Labels<'a>,
+    section: u64,
+    number: u64,
+    member: u32,
+) -> [Member<'a>; 4]
+    ensures { members_said result ≡ member_members (named_by labels.now) section number member }
+{
+    [
+        ("section", Value::Number(section)),
+        ("index", Value::Number(number)),
+        ("member", Value::Number(member as u64)),
+        ("name", Value::Text(Some(labels.name_at(member as usize)))),
+    ]
+}

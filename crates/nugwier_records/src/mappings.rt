@@ -1,0 +1,49 @@
+//! What is said of the memory that a loader maps.
+ghost use Rattle.std.specs.Prelude.{◌≡◌};
+ghost use Rattle.nugwier_records.specs.Mappings.{mapping_members, mapping_said};
+ghost use Rattle.nugwier_writing.specs.Members.{members_said};
+
+use elf_names::flags::segment_flags;
+use elf_tools::load_plan::Mapping;
+use nugwier_report::problem::Stop;
+use nugwier_report::report::Report;
+use nugwier_report::rows::Row;
+use nugwier_writing::json::{Member, Value};
+use nugwier_writing::kind::Kind;
+use std::io::Write;
+
+/// A mapping.
+#[derive(Clone, Copy)]
+pub struct MappingRow;
+
+impl Row for MappingRow {
+    type Item = Mapping;
+
+    ghost said = { λ row number mapping. mapping_said number mapping };
+
+    fn say<W: Write, V: Write>(
+        &self,
+        _number: u64,
+        mapping: &Mapping,
+        report: &mut Report<'_, W, V>,
+    ) -> Result<(), Stop> {
+        report.state(Kind::Mapping, &mapping_members(mapping))
+    }
+}
+
+#[tactic(auto, unfolding(crate::specs::Mappings::mapping_members))]
+fn mapping_members(mapping: &Mapping) -> [Member<'static>; 6]
+    ensures { members_said result ≡ mapping_members mapping.now }
+{
+    [
+        ("p_vaddr", Value::Number(mapping.address)),
+        ("p_memsz", Value::Number(mapping.memory_size)),
+        ("p_offset", Value::Number(mapping.offset)),
+        ("p_filesz", Value::Number(mapping.file_size)),
+        ("p_flags", Value::Number(mapping.flags as u64)),
+        (
+            "p_flags_names",
+            Value::Flags(segment_flags(), mapping.flags as u64),
+        ),
+    ]
+}

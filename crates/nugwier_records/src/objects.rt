@@ -1,0 +1,49 @@
+//! What is said of the objects of a program.
+ghost use Rattle.std.specs.Prelude.{◌≡◌, OnOk};
+ghost use Rattle.std.specs.Option.{option_copied};
+ghost use Rattle.nugwier_records.specs.Objects.{listed_view, object_kind, object_said};
+ghost use Rattle.nugwier_report.specs.Said.{saying};
+
+use nugwier_report::problem::Stop;
+use nugwier_report::report::Report;
+use nugwier_writing::json::Value;
+use nugwier_writing::kind::Kind;
+use std::io::Write;
+
+/// The program, a library that it loads, or one that was not found.
+#[derive(Clone, Copy)]
+pub struct ListedObject<'a> {
+    /// The number of its loaders: the object that needed it first, the one that needed that one first, and so on.
+    pub depth: usize,
+    /// The name by which it was needed first.
+    pub name: &'a [u8],
+    /// The path of its file, if one was found.
+    pub path: Option<&'a [u8]>,
+    /// The path of the object that needed it first.
+    pub loader: &'a [u8],
+}
+
+impl ListedObject<'_> {
+    /// Says it of the object. The only error is that of the writer.
+    pub fn say<W: Write, V: Write>(&self, report: &mut Report<'_, W, V>) -> Result<(), Stop>
+        ensures { OnOk result (report.new ≡ saying report.old (object_said (listed_view self.now))) }
+    {
+        let members = [
+            ("depth", Value::Number(self.depth as u64)),
+            ("name", Value::Text(Some(self.name))),
+            ("path", Value::Text(self.path)),
+            ("loader", Value::Text(Some(self.loader))),
+        ];
+        report.state(self.kind(), &members)
+    }
+
+    fn kind(&self) -> Kind
+        ensures { result ≡ object_kind self.now.depth (option_copied self.now.path) }
+    {
+        match self.path {
+            Some(_) if self.depth == 0 => Kind::Program,
+            Some(_) => Kind::Library,
+            None => Kind::MissingLibrary,
+        }
+    }
+}

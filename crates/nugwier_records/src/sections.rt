@@ -1,0 +1,92 @@
+//! What is said of sections.
+ghost use Rattle.std.specs.Prelude.{◌≡◌, IfOk, OnOk};
+ghost use Rattle.std.specs.Option.{option_copied};
+ghost use Rattle.nugwier_writing.specs.Members.{members_said};
+ghost use Rattle.nugwier_report.specs.Said.{saying};
+ghost use Rattle.nugwier_records.specs.Sections.{name_read, name_unread, section_members, section_said};
+
+use elf_names::flags::section_flags;
+use elf_names::sections::section_type_name;
+use elf_parts::section::SectionHeader;
+use elf_parts::string_table::TerminatedStrings;
+use nugwier_report::problem::{Item, Part, Stop};
+use nugwier_report::report::Report;
+use nugwier_report::rows::Row;
+use nugwier_writing::json::{Member, Value};
+use nugwier_writing::kind::Kind;
+use std::io::Write;
+
+/// A section of a file for this machine (`e_machine`), with its name in these strings, if there are any.
+#[derive(Drop)]
+pub struct SectionRow<'a> {
+    pub machine: u16,
+    pub names: Option<TerminatedStrings<'a>>,
+}
+
+impl Row for SectionRow<'_> {
+    type Item = SectionHeader;
+
+    ghost said = { λ row number section. section_said row.machine row.names number section };
+
+    fn say<W: Write, V: Write>(
+        &self,
+        number: u64,
+        section: &SectionHeader,
+        report: &mut Report<'_, W, V>,
+    ) -> Result<(), Stop> {
+        let name = section_name(&self.names, number, section, report)?;
+        report.state(
+            Kind::Section,
+            &section_members(self.machine, number, section, name),
+        )
+    }
+}
+
+// The name of a section; no name if there are no names.
+fn section_name<'a, W: Write, V: Write>(
+    names: &Option<TerminatedStrings<'a>>,
+    number: u64,
+    section: &SectionHeader,
+    report: &mut Report<'_, W, V>,
+) -> Result<Option<&'a [u8]>, Stop>
+    ensures name { IfOk result (λ name. option_copied name ≡ name_read names.now section.now) }
+    ensures wrong { OnOk result (report.new ≡ saying report.old (name_unread names.now number section.now)) }
+{
+    let Some(names) = names else {
+        return Ok(Some(&[]));
+    };
+    let place = Part::Section(number).item(Item::Name);
+    report.readable(place, names.get_raw(section.sh_name as usize))
+}
+
+fn section_members<'a>(
+    machine: u16,
+    number: u64,
+    section: &SectionHeader,
+    name: Option<&'a [u8]>,
+) -> [Member<'a>; 14]
+    ensures { members_said result ≡ section_members machine number section.now (option_copied name.entry) }
+{
+    [
+        ("index", Value::Number(number)),
+        ("sh_name", Value::Number(section.sh_name as u64)),
+        ("name", Value::Text(name)),
+        ("sh_type", Value::Number(section.sh_type as u64)),
+        (
+            "sh_type_name",
+            Value::Word(section_type_name(machine, section.sh_type)),
+        ),
+        ("sh_flags", Value::Number(section.sh_flags)),
+        (
+            "sh_flags_names",
+            Value::Flags(section_flags(), section.sh_flags),
+        ),
+        ("sh_addr", Value::Number(section.sh_addr)),
+        ("sh_offset", Value::Number(section.sh_offset)),
+        ("sh_size", Value::Number(section.sh_size)),
+        ("sh_link", Value::Number(section.sh_link as u64)),
+        ("sh_info", Value::Number(section.sh_info as u64)),
+        ("sh_addralign", Value::Number(section.sh_addralign)),
+        ("sh_entsize", Value::Number(section.sh_entsize)),
+    ]
+}

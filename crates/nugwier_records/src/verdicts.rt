@@ -1,0 +1,119 @@
+//! What is said of whether a file is sound.
+ghost use Rattle.std.specs.Prelude.{◌≡◌, List, OnOk, Some, IfOk, string_bytes};
+ghost use Rattle.std.specs.List.{flat_map};
+ghost use Rattle.nugwier_writing.specs.Members.{members_said};
+ghost use Rattle.nugwier_report.specs.Problems.{fault_text};
+ghost use Rattle.nugwier_report.specs.Said.{Said, saying};
+ghost use Rattle.nugwier_records.specs.Verdicts.{IsVerdictSaid, fault_members, fault_part, fault_said, fault_told};
+ghost use Rattle.nugwier_records.specs.Verdicts.{sound_file_members, sound_members, sound_said};
+
+use elf_check::faults::FileFault;
+use nugwier_report::problem::{Fault, Part, Stop, part_member};
+use nugwier_report::report::Report;
+use nugwier_writing::json::{Member, Value};
+use nugwier_writing::kind::Kind;
+use std::alloc::Global;
+use std::io::Write;
+
+/// Says that the file of this path is sound, or all its faults, if it has any.
+pub fn say_verdict<W: Write, V: Write>(
+    alloc: Global,
+    path: &str,
+    faults: &[FileFault],
+    report: &mut Report<'_, W, V>,
+) -> Result<(), Stop>
+    ensures { OnOk result ((said : List Said) × IsVerdictSaid path.now faults.now said
+        × (report.new ≡ saying report.old said)) }
+{
+    if faults.is_empty() {
+        return say_sound(path, report);
+    }
+    say_faults(alloc, faults, report)
+}
+
+fn say_sound<W: Write, V: Write>(path: &str, report: &mut Report<'_, W, V>) -> Result<(), Stop>
+    ensures { OnOk result (report.new ≡ saying report.old (sound_said path.now)) }
+{
+    report.state(Kind::SoundFile, &sound_file_members(path))?;
+    report.state(Kind::Verdict, &sound_members())
+}
+
+fn sound_file_members<'a>(path: &'a str) -> [Member<'a>; 1]
+    ensures { members_said result ≡ sound_file_members path.now }
+{
+    [("path", Value::Text(Some(path.as_bytes())))]
+}
+
+fn sound_members() -> [Member<'static>; 3]
+    ensures { members_said result ≡ sound_members }
+{
+    [
+        ("is_sound", Value::Flag(true)),
+        ("section", Value::Null),
+        ("fault", Value::Null),
+    ]
+}
+
+fn say_faults<W: Write, V: Write>(
+    alloc: Global,
+    faults: &[FileFault],
+    report: &mut Report<'_, W, V>,
+) -> Result<(), Stop>
+    ensures { OnOk result (report.new ≡ saying report.old (flat_map fault_said faults.now)) }
+{
+    for fault in faults {
+        say_fault(alloc, *fault, report)?;
+    }
+    Ok(())
+}
+
+// Says a fault: a record with its text, then the problem.
+fn say_fault<W: Write, V: Write>(
+    alloc: Global,
+    fault: FileFault,
+    report: &mut Report<'_, W, V>,
+) -> Result<(), Stop>
+    ensures { OnOk result (report.new ≡ saying report.old (fault_said fault)) }
+{
+    let text = text_of(alloc, fault)?;
+    report.state(Kind::Verdict, &fault_members(fault, text.as_str()))?;
+    report.problem(part_of(fault).whole(), told_of(fault))
+}
+
+fn fault_members<'a>(fault: FileFault, text: &'a str) -> [Member<'a>; 3]
+    ensures { fault_text (fault_told fault) ≡ Some text.now → members_said result ≡ fault_members fault }
+{
+    [
+        ("is_sound", Value::Flag(false)),
+        part_member(part_of(fault)),
+        ("fault", Value::Text(Some(text.as_bytes()))),
+    ]
+}
+
+// Where a fault is: in a section, or in the file as a whole.
+fn part_of(fault: FileFault) -> Part
+    ensures { result ≡ fault_part fault }
+{
+    match fault {
+        FileFault::Section { index, .. } => Part::Section(index as u64),
+        _ => Part::File,
+    }
+}
+
+// A fault, as it is told of its place.
+fn told_of(fault: FileFault) -> Fault<'static>
+    ensures { result ≡ fault_told fault }
+{
+    match fault {
+        FileFault::Section { fault, .. } => Fault::Section(fault),
+        fault => Fault::File(fault),
+    }
+}
+
+// What is told of a fault.
+fn text_of(alloc: Global, fault: FileFault) -> Result<String, Stop>
+    ensures { IfOk result (λ text. fault_text (fault_told fault) ≡ Some (string_bytes text)) }
+{
+    let told = told_of(fault);
+    Ok(format!(in alloc; "{told}")?)
+}

@@ -1,8 +1,0 @@
-use Rattle.std.proofs.Common.{◌≡◌, OnOk, [], ◌∷◌, subst}
-use Rattle.nugwier_report.specs.Said.{Members, saying, states}
-use Rattle.nugwier_report.specs.declared.kind.Kind.TheVariants.{AbiTagNote}
-use Rattle.nugwier_report.proofs.notes.say_abi_tag.Goals as goal
-
-pub returns : goal.returns
-returns g c =
-    subst (λ (members : Members). OnOk c.state.result (c.state.new.self ≡ saying c.args.report.now (states AbiTagNote members ∷ []))) c.abi_tag_members.ensures c.state.ensures

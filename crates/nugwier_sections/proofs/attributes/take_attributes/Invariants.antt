@@ -1,0 +1,17 @@
+use Rattle.std.proofs.Common.{◌≡◌, ◌++◌, map}
+use Rattle.std.specs.List.{flat_map}
+use Rattle.std.specs.Vec.Iter.{into_iter_items}
+use Rattle.nugwier_sections.specs.Attributes.{attributes_of_section, said_of_attributes}
+use Rattle.nugwier_taking.specs.Whole.{file_of}
+use Rattle.nugwier_sections.specs.inner.Attributes.{part_said}
+use Rattle.nugwier_taking.specs.inner.TypedSections.{section_view}
+use Rattle.nugwier_sections.proofs.attributes.take_attributes.Given as goal
+
+-- what was taken so far, and then the sections that are left, is the whole
+abbrev pub invariant-loop-section : goal.invariant-loop-section
+invariant-loop-section g l =
+    let whole = file_of (g.R.Headers.file l.file) (g.R.ListedFile.bytes l.file) in
+    let machine = (g.R.ListedFile.header l.file).e_machine in
+    flat_map part_said l.parts.items
+    ++ flat_map (attributes_of_section machine whole) (map section_view (into_iter_items l.section-iterator))
+    ≡ said_of_attributes machine whole

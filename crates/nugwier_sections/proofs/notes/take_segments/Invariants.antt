@@ -1,0 +1,16 @@
+use Rattle.std.proofs.Common.{◌≡◌, ◌++◌, drop}
+use Rattle.std.specs.List.{flat_map}
+use Rattle.nugwier_sections.specs.Notes.{notes_of_segments, said_of_note_segments}
+use Rattle.nugwier_taking.specs.Whole.{file_of}
+use Rattle.nugwier_sections.specs.inner.Notes.{part_said}
+use Rattle.nugwier_sections.proofs.notes.take_segments.Given as goal
+
+-- what was taken so far, and then the segments that are left, is the whole
+abbrev pub invariant-loop-segment : goal.invariant-loop-segment
+invariant-loop-segment g l =
+    let whole = file_of (g.R.Headers.file l.file) (g.R.ListedFile.bytes l.file) in
+    let machine = (g.R.ListedFile.header l.file).e_machine in
+    (l.number ≡ l.segment-index)
+    × (flat_map part_said l.parts.items
+    ++ notes_of_segments machine whole l.left l.segment-index (drop l.segment-index l.segment-items)
+    ≡ said_of_note_segments machine whole)

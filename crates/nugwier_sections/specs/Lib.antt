@@ -1,0 +1,21 @@
+-- what is said of each part of a file
+pub mod Identity
+pub mod Plan
+pub mod Sections
+pub mod Segments
+-- what was taken, as the definitions have it
+pub mod inner
+-- the chains of hash sections
+pub mod Chains
+-- the build attributes
+pub mod Attributes
+-- the links to files with debug information
+pub mod DebugLinks
+-- what is said of a file that is checked
+pub mod Check
+-- the notes
+pub mod Notes
+-- the versions that are defined and needed
+pub mod VersionLists
+-- the content of sections
+pub mod Contents

@@ -1,0 +1,116 @@
+//! Whether a file is sound, and its faults. It is read whole.
+ghost use Rattle.std.specs.Prelude.{◌≡◌, ◌<◌, ◌^◌, List, Result, IfOk, IfSome, OnOk, false, length};
+ghost use Rattle.elf.specs.ElfBytes.{view};
+ghost use Rattle.elf.specs.Loaded.{streamed_file};
+ghost use Rattle.elf.specs.ObjectFile.{object_file};
+ghost use Rattle.elf_records.specs.Number.{ok_map};
+ghost use Rattle.elf_records.specs.declared.parse.ParseError.{ParseError};
+ghost use Rattle.elf_reading.specs.Opening.{opened_file};
+ghost use Rattle.elf_check.specs.AllFaults.{AreAllFaults};
+ghost use Rattle.elf_check.specs.declared.faults.FileFault.{FileFault};
+ghost use Rattle.nugwier_sections.specs.Check.{AreContentFaults, AreFaultsOf, AreFoundSaid, AreOpenedFaults};
+ghost use Rattle.nugwier_taking.specs.Whole.{stream_range, file_of};
+ghost use Rattle.nugwier_report.specs.Said.{Said, saying};
+
+use elf::endian::EndianParse;
+use elf::{ElfBytes, ElfStream, ParseError, StreamSource};
+use elf_check::all_faults_in;
+use elf_check::faults::FileFault;
+use nugwier_records::verdicts::say_verdict;
+use nugwier_report::problem::{Fault, Part, Stop};
+use nugwier_report::report::Report;
+use nugwier_taking::listed::ListedFile;
+use nugwier_taking::taking;
+use nugwier_taking::taking::NotTaken;
+use std::alloc::{AllocError, Global};
+use std::io::Write;
+
+// The number of places for the versions that a file needs, and for those that it defines: one for each version index.
+const PLACES: usize = 32_768;
+
+/// All faults of a file, or why it cannot be read whole.
+pub type Checked = Result<Vec<FileFault>, ParseError>;
+
+/// Takes all faults of a file.
+pub fn take_check<E: EndianParse, R: ListedFile<E>>(
+    alloc: Global,
+    file: &R,
+) -> Result<Checked, NotTaken>
+    ensures { IfOk result (λ checked. AreFaultsOf E.little E.of_byte (file_of (R.file file.now) (R.bytes file.now))
+        (ok_map (λ faults. faults.items) checked)) }
+{
+    match taking::whole_bytes(file)? {
+        Ok(bytes) => Ok(checked::<E>(alloc, bytes)?),
+        Err(error) => Ok(Err(error)),
+    }
+}
+
+/// States that the faults of a stream over known content are all faults of the file that the content holds, if it was
+/// opened with its section headers.
+pub fn content_is_checked<E: EndianParse, S: StreamSource>(stream: &ElfStream<E, S, Global>)
+    ensures { stream.now.by_segments ≡ false → IfSome stream.now.content (λ bytes.
+        (found : Result (List FileFault) ParseError) →
+        AreFaultsOf E.little E.of_byte (file_of (streamed_file E.little stream.now) (stream_range stream.now)) found →
+        AreContentFaults E.little E.of_byte bytes found) }
+{
+    stream.is_of_file();
+    stream.is_part_of_file();
+    content_has_a_length(stream);
+}
+
+// States that the length of a known content is a number of 64 bits.
+fn content_has_a_length<E: EndianParse, S: StreamSource>(stream: &ElfStream<E, S, Global>)
+    ensures { IfSome stream.now.content (λ bytes. length bytes < 2 ^ 64) }
+{
+    let _ = stream.source_len();
+}
+
+// Checks a file that is opened over these bytes.
+fn checked<E: EndianParse>(alloc: Global, bytes: &[u8]) -> Result<Checked, AllocError>
+    ensures { IfOk result (λ checked. AreOpenedFaults E.little E.of_byte (opened_file E.little E.of_byte bytes.now)
+        (ok_map (λ faults. faults.items) checked)) }
+{
+    match ElfBytes::<E>::minimal_parse(bytes) {
+        Ok(file) => Ok(Ok(faults_of(alloc, &file)?)),
+        Err(error) => Ok(Err(error)),
+    }
+}
+
+fn faults_of<E: EndianParse>(
+    alloc: Global,
+    file: &ElfBytes<'_, E>,
+) -> Result<Vec<FileFault>, AllocError>
+    ensures { IfOk result (λ faults. AreAllFaults (object_file E.little (view file.now)) faults.items) }
+{
+    let mut needed = empty_places(alloc);
+    let mut defined = empty_places(alloc);
+    all_faults_in(alloc, file, &mut needed, &mut defined)
+}
+
+// Empty places, or none if there is no memory for them. Without a place a version is looked up by a walk.
+fn empty_places<T: Copy>(alloc: Global) -> Vec<Option<T>> {
+    let mut places = match Vec::with_capacity(alloc, PLACES) {
+        Ok(places) => places,
+        Err(_) => return Vec::new(alloc),
+    };
+    while places.len() < PLACES {
+        places.push_reserved(None);
+    }
+    places
+}
+
+/// Says that the file of this path is sound, or its faults.
+pub fn say_check<W: Write, V: Write>(
+    alloc: Global,
+    path: &str,
+    checked: Checked,
+    report: &mut Report<'_, W, V>,
+) -> Result<(), Stop>
+    ensures { OnOk result ((said : List Said) × AreFoundSaid path.now (ok_map (λ faults. faults.items) checked) said
+        × (report.new ≡ saying report.old said)) }
+{
+    match checked {
+        Ok(faults) => say_verdict(alloc, path, faults.as_slice(), report),
+        Err(error) => report.problem(Part::File.whole(), Fault::Read(error)),
+    }
+}

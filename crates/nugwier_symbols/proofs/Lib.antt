@@ -1,0 +1,2 @@
+-- the symbols of a table, each with its number
+pub mod Ordered

@@ -1,0 +1,238 @@
+//! What a file has for dynamic linking: by its section headers; if it declares none by its segments, as the dynamic
+//! linker finds it.
+ghost use Rattle.std.specs.Prelude.{◌≡◌, true, IfOk, None};
+ghost use Rattle.std.specs.Option.{option_map};
+ghost use Rattle.elf.specs.Answers.{relas_left, rels_left, symbols_view};
+ghost use Rattle.elf.specs.Parts.{loaded};
+ghost use Rattle.elf_dynamic.specs.dynamic_view.Entries.{dynamic_table, entries_in};
+ghost use Rattle.elf_dynamic.specs.dynamic_view.Laws.{FollowsWhole};
+ghost use Rattle.elf_dynamic.specs.dynamic_view.Relocations.{plt_left, plt_relocations, relas, relr_bytes, rels};
+ghost use Rattle.elf_dynamic.specs.dynamic_view.Strings.{strings};
+ghost use Rattle.elf_dynamic.specs.dynamic_view.Symbols.{symbols};
+ghost use Rattle.elf_dynamic.specs.dynamic_view.Versions.{versions};
+ghost use Rattle.elf_parts.specs.gnu_symver.Table.{versions_view};
+ghost use Rattle.elf_records.specs.Number.{ok_map};
+ghost use Rattle.elf_records.specs.Table.{table_view};
+ghost use Rattle.nugwier_taking.specs.Linked.{by_entries, linked_symbols, linked_versions, symbols_by};
+ghost use Rattle.nugwier_taking.specs.Whole.{file_of};
+ghost use Rattle.nugwier_taking.specs.inner.Linked.{missing_of};
+
+use crate::listed::ListedFile;
+use crate::taking;
+use crate::taking::{FoundSymbols, NotTaken, Symbols};
+use elf::dynamic::DynamicTable;
+use elf::endian::EndianParse;
+use elf::gnu_symver::SymbolVersionTable;
+use elf::headers::Headers;
+use elf::relocation::{RelIterator, RelaIterator};
+use elf::string_table::StringTable;
+use elf::symbol::SymbolTable;
+use elf_dynamic::dynamic_view;
+use elf_dynamic::dynamic_view::laws::part_view_as_whole;
+use elf_dynamic::dynamic_view::{DynamicError, PltRelocations};
+use nugwier_report::problem::Fault;
+
+/// The versions of the symbols for dynamic linking, if there are any.
+pub type FoundVersions<'f, E> = Result<Option<SymbolVersionTable<'f, E>>, Fault<'static>>;
+
+// What is found through the segments.
+type View<T> = Result<T, DynamicError>;
+
+/// Takes the symbols for dynamic linking, and their strings.
+pub fn linked_symbols<'f, E: EndianParse, R: ListedFile<E>>(
+    file: &'f R,
+) -> Result<FoundSymbols<'f, E>, NotTaken>
+    ensures { IfOk result (λ found. ok_map (option_map symbols_view) found
+        ≡ linked_symbols (file_of (R.file file.now) (R.bytes file.now))) }
+{
+    if file.declares_sections() {
+        return match taking::dynamic_symbols(file)? {
+            Ok(symbols) => Ok(Ok(symbols)),
+            Err(error) => Ok(Err(Fault::Read(error))),
+        };
+    }
+    match symbols_by_segments(file)? {
+        Ok(symbols) => Ok(Ok(symbols)),
+        Err(error) => Ok(Err(Fault::Linked(error))),
+    }
+}
+
+/// Takes the versions of the symbols for dynamic linking.
+pub fn linked_versions<'f, E: EndianParse, R: ListedFile<E>>(
+    file: &'f R,
+) -> Result<FoundVersions<'f, E>, NotTaken>
+    ensures { IfOk result (λ found. ok_map (option_map versions_view) found
+        ≡ linked_versions (file_of (R.file file.now) (R.bytes file.now))) }
+{
+    if file.declares_sections() {
+        return match taking::versions(file)? {
+            Ok(versions) => Ok(Ok(versions)),
+            Err(error) => Ok(Err(Fault::Read(error))),
+        };
+    }
+    match versions_by_segments(file)? {
+        Ok(versions) => Ok(Ok(versions)),
+        Err(error) => Ok(Err(Fault::Linked(error))),
+    }
+}
+
+fn symbols_by_segments<'f, E: EndianParse, R: ListedFile<E>>(
+    file: &'f R,
+) -> Result<View<Option<Symbols<'f, E>>>, NotTaken>
+    ensures { let whole = file_of (R.file file.now) (R.bytes file.now) in
+        IfOk result (λ found. ok_map (option_map symbols_view) found
+        ≡ by_entries (symbols_by whole) (dynamic_table whole)) }
+{
+    match entries(file)? {
+        Ok(Some(table)) => symbols_by(file, &table),
+        Ok(None) => Ok(Ok(None)),
+        Err(error) => Ok(Err(error)),
+    }
+}
+
+fn versions_by_segments<'f, E: EndianParse, R: ListedFile<E>>(
+    file: &'f R,
+) -> Result<View<Option<SymbolVersionTable<'f, E>>>, NotTaken>
+    ensures { let whole = file_of (R.file file.now) (R.bytes file.now) in
+        IfOk result (λ found. ok_map (option_map versions_view) found
+        ≡ by_entries (versions whole) (dynamic_table whole)) }
+{
+    match entries(file)? {
+        Ok(Some(table)) => versions(file, &table),
+        Ok(None) => Ok(Ok(None)),
+        Err(error) => Ok(Err(error)),
+    }
+}
+
+/// Takes the symbols that dynamic entries give, and their strings.
+pub fn symbols_by<'f, E: EndianParse, R: ListedFile<E>>(
+    file: &'f R,
+    table: &DynamicTable<'_, E>,
+) -> Result<View<Option<Symbols<'f, E>>>, NotTaken>
+    ensures { IfOk result (λ found. ok_map (option_map symbols_view) found
+        ≡ symbols_by (file_of (R.file file.now) (R.bytes file.now)) (entries_in (table_view table.now))) }
+{
+    let symbols = match symbols(file, table)? {
+        Ok(symbols) => symbols,
+        Err(error) => return Ok(Err(error)),
+    };
+    match strings(file, table)? {
+        Ok(strings) => Ok(Ok(Some((symbols, StringTable::new(strings))))),
+        Err(error) => Ok(Err(error)),
+    }
+}
+
+// ---- what the dynamic linker sees
+
+// States that what is seen of the part that is loaded is what is seen of the whole file, or is missing.
+fn is_part<E: EndianParse, R: ListedFile<E>>(file: &R)
+    ensures { FollowsWhole (λ _. true) (file_of (R.file file.now) (R.bytes file.now))
+        (loaded (file_of (R.file file.now) (R.bytes file.now)) (R.ranges file.now)) }
+{
+    file.is_part_of_whole();
+    part_view_as_whole();
+}
+
+// What was found, unless bytes are missing.
+fn taken<T>(read: View<T>) -> Result<View<T>, NotTaken>
+    ensures found { IfOk result (λ found. read ≡ found) }
+    ensures no_missing { IfOk result (λ found. missing_of found ≡ None) }
+{
+    match read {
+        Ok(value) => Ok(Ok(value)),
+        Err(DynamicError::Missing(range)) => Err(NotTaken::Missing(range)),
+        Err(error) => Ok(Err(error)),
+    }
+}
+
+/// Takes the dynamic entries of the segment of type `PT_DYNAMIC`.
+pub fn entries<'f, E: EndianParse, R: ListedFile<E>>(
+    file: &'f R,
+) -> Result<View<Option<DynamicTable<'f, E>>>, NotTaken>
+    ensures { IfOk result (λ found. ok_map (option_map table_view) found
+        ≡ dynamic_table (file_of (R.file file.now) (R.bytes file.now))) }
+{
+    is_part(file);
+    taken(dynamic_view::dynamic_table(file))
+}
+
+fn symbols<'f, E: EndianParse, R: ListedFile<E>>(
+    file: &'f R,
+    table: &DynamicTable<'_, E>,
+) -> Result<View<SymbolTable<'f, E>>, NotTaken>
+    ensures { IfOk result (λ found. ok_map table_view found
+        ≡ symbols (file_of (R.file file.now) (R.bytes file.now)) (entries_in (table_view table.now))) }
+{
+    is_part(file);
+    taken(dynamic_view::symbols(file, table))
+}
+
+fn strings<'f, E: EndianParse, R: ListedFile<E>>(
+    file: &'f R,
+    table: &DynamicTable<'_, E>,
+) -> Result<View<&'f [u8]>, NotTaken>
+    ensures { IfOk result (λ found. ok_map (λ bytes. bytes.now) found
+        ≡ strings (file_of (R.file file.now) (R.bytes file.now)) (entries_in (table_view table.now))) }
+{
+    is_part(file);
+    taken(dynamic_view::strings(file, table))
+}
+
+fn versions<'f, E: EndianParse, R: ListedFile<E>>(
+    file: &'f R,
+    table: &DynamicTable<'_, E>,
+) -> Result<View<Option<SymbolVersionTable<'f, E>>>, NotTaken>
+    ensures { IfOk result (λ found. ok_map (option_map versions_view) found
+        ≡ versions (file_of (R.file file.now) (R.bytes file.now)) (entries_in (table_view table.now))) }
+{
+    is_part(file);
+    taken(dynamic_view::versions(file, table))
+}
+
+/// Takes the relocations of `DT_REL`.
+pub fn rels<'f, E: EndianParse, R: ListedFile<E>>(
+    file: &'f R,
+    table: &DynamicTable<'_, E>,
+) -> Result<View<Option<RelIterator<'f, E>>>, NotTaken>
+    ensures { IfOk result (λ found. ok_map (option_map rels_left) found
+        ≡ rels (file_of (R.file file.now) (R.bytes file.now)) (entries_in (table_view table.now))) }
+{
+    is_part(file);
+    taken(dynamic_view::rels(file, table))
+}
+
+/// Takes the relocations of `DT_RELA`.
+pub fn relas<'f, E: EndianParse, R: ListedFile<E>>(
+    file: &'f R,
+    table: &DynamicTable<'_, E>,
+) -> Result<View<Option<RelaIterator<'f, E>>>, NotTaken>
+    ensures { IfOk result (λ found. ok_map (option_map relas_left) found
+        ≡ relas (file_of (R.file file.now) (R.bytes file.now)) (entries_in (table_view table.now))) }
+{
+    is_part(file);
+    taken(dynamic_view::relas(file, table))
+}
+
+/// Takes the bytes of the packed relative relocations, of `DT_RELR`.
+pub fn relr_bytes<'f, E: EndianParse, R: ListedFile<E>>(
+    file: &'f R,
+    table: &DynamicTable<'_, E>,
+) -> Result<View<Option<&'f [u8]>>, NotTaken>
+    ensures { IfOk result (λ found. ok_map (option_map (λ bytes. bytes.now)) found
+        ≡ relr_bytes (file_of (R.file file.now) (R.bytes file.now)) (entries_in (table_view table.now))) }
+{
+    is_part(file);
+    taken(dynamic_view::relr_bytes(file, table))
+}
+
+/// Takes the relocations of the procedure linkage table, of `DT_JMPREL`.
+pub fn plt_relocations<'f, E: EndianParse, R: ListedFile<E>>(
+    file: &'f R,
+    table: &DynamicTable<'_, E>,
+) -> Result<View<Option<PltRelocations<'f, E>>>, NotTaken>
+    ensures { IfOk result (λ found. ok_map (option_map plt_left) found
+        ≡ plt_relocations (file_of (R.file file.now) (R.bytes file.now)) (entries_in (table_view table.now))) }
+{
+    is_part(file);
+    taken(dynamic_view::plt_relocations(file, table))
+}

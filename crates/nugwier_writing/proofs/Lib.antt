@@ -1,0 +1,5 @@
+pub mod Writing
+pub mod JsonStrings
+pub mod JsonReading
+pub mod Characters
+pub mod Dump

@@ -1,0 +1,15 @@
+use Rattle.std.proofs.Common.{drop}
+use denote.Shadow.{shadow}
+use denote.Text.{Utf8}
+use Rattle.elfshow_lines.proofs.Adding.{Leads}
+use Rattle.nugwier_writing.specs.Members.{members_said}
+use Rattle.nugwier_writing.specs.Text.{row_text}
+use Rattle.nugwier_writing.proofs.text.add_cells.Given as goal
+
+-- what was added so far, and then what is left of the row, is the whole row
+abbrev pub invariant-loop-column : goal.invariant-loop-column
+invariant-loop-column g l =
+    let text = row_text l.look (members_said l.members) in
+    Leads (g.W.Write.contents l.initial.out) l.initial.lines (g.W.Write.contents l.out) l.lines
+    (text l.rest (drop l.column-index l.columns)) (text l.row l.columns)
+    × shadow (Utf8 l.rest)
