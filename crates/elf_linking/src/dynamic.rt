@@ -46,7 +46,8 @@ fn entries<'f, E: EndianParse, R: Reader<E>>(
 ///
 /// ```rust
 /// if let Some((symbols, strings)) = dynamic_symbols(&file)? {
-///     println!(rt; "{} symbols in {} bytes of names", symbols.len(), strings.bytes().len())?;
+///     let size = strings.bytes().len();
+///     println!(rt; "{} symbols, {size} bytes of names", symbols.len())?;
 /// }
 /// ```
 pub fn dynamic_symbols<'f, E: EndianParse, R: Reader<E>>(

@@ -11,7 +11,7 @@ ghost use Rattle.std.specs.Option.{option_map};
 ghost use Rattle.elf_reading.specs.Cache.{is_cached};
 ghost use Rattle.elf_records.specs.declared.parse.ParseError.{ParseError};
 
-use elf_parts::parse::ParseError;
+use elf_records::parse::ParseError;
 use std::alloc::Allocator;
 use std::collections::BTreeMap;
 use std::marker::Model;

@@ -3,9 +3,9 @@ ghost use Rattle.std.specs.Prelude.{◌≡◌, ◌≤◌, IfOk, length};
 ghost use Rattle.elf_records.specs.Number.{ok_map};
 ghost use Rattle.elf_reading.specs.Leading.{at_front, data_view};
 
-use elf_parts::endian::EndianParse;
-use elf_parts::file::Class;
-use elf_parts::parse::{ParseAt, ParseError};
+use elf_records::endian::EndianParse;
+use elf_records::file::Class;
+use elf_records::parse::{ParseAt, ParseError};
 
 /// Returns the record at the front of the data, and the bytes after it. The only error is that of `parse_at` at
 /// offset 0.

@@ -4,9 +4,9 @@ ghost use Rattle.elf_records.specs.Clones.{ClonesExactly};
 ghost use Rattle.elf_reading.specs.Tables.{count_word, declared_sections, declared_segments};
 
 use elf_abi::abi::PN_XNUM;
-use elf_parts::endian::EndianParse;
-use elf_parts::file::FileHeader;
-use elf_parts::section::SectionHeader;
+use elf_records::endian::EndianParse;
+use elf_records::file::FileHeader;
+use elf_records::section::SectionHeader;
 
 /// The field of the first section header that holds the number of a table's records if it does not fit the file header.
 #[derive(Copy, Clone)]

@@ -6,8 +6,8 @@ ghost use Rattle.elf_reading.specs.Opening.{section_list};
 ghost use Rattle.elf_reading.specs.Versions.{version_sections};
 
 use elf_abi::abi;
-use elf_parts::endian::EndianParse;
-use elf_parts::section::{SectionHeader, SectionHeaderTable};
+use elf_records::endian::EndianParse;
+use elf_records::section::{SectionHeader, SectionHeaderTable};
 
 /// The sections with the versions of symbols.
 #[derive(Copy, Clone)]

@@ -9,12 +9,11 @@ ghost use Rattle.elf_reading.specs.Tables.{declared_count, declared_table};
 
 use crate::tables::DeclaredTable;
 use elf_abi::abi;
-use elf_parts::endian::EndianParse;
-use elf_parts::file::{Class, ELF32_EHDR_TAILSIZE, ELF64_EHDR_TAILSIZE, FileHeader, parse_ident};
-use elf_parts::parse::{ParseAt, ParseError, ParsingTable};
-use elf_parts::section::{SectionHeader, SectionHeaderTable};
-use elf_parts::segment::SegmentTable;
-use elf_records::parse::get_bytes;
+use elf_records::endian::EndianParse;
+use elf_records::file::{Class, ELF32_EHDR_TAILSIZE, ELF64_EHDR_TAILSIZE, FileHeader, parse_ident};
+use elf_records::parse::{ParseAt, ParseError, ParsingTable, get_bytes};
+use elf_records::section::{SectionHeader, SectionHeaderTable};
+use elf_records::segment::SegmentTable;
 
 // The file header at the front of the data.
 #[tactic(auto, unfolding(crate::specs::Opening::header_at_front))]

@@ -18,11 +18,11 @@ use crate::reads::{fetch, read_at};
 use crate::source::StreamSource;
 use crate::tables::DeclaredTable;
 use elf_abi::abi::EI_NIDENT;
-use elf_parts::endian::EndianParse;
-use elf_parts::file::{Class, ELF32_EHDR_TAILSIZE, ELF64_EHDR_TAILSIZE, FileHeader, parse_ident};
-use elf_parts::parse::{ParseAt, ParseError, ParsingTable};
-use elf_parts::section::SectionHeader;
-use elf_parts::segment::ProgramHeader;
+use elf_records::endian::EndianParse;
+use elf_records::file::{Class, ELF32_EHDR_TAILSIZE, ELF64_EHDR_TAILSIZE, FileHeader, parse_ident};
+use elf_records::parse::{ParseAt, ParseError, ParsingTable};
+use elf_records::section::SectionHeader;
+use elf_records::segment::ProgramHeader;
 use std::alloc::{AllocError, Allocator};
 
 // The sizes of a section header in bytes (gABI, chapter "Sections").
