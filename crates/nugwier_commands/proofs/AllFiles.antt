@@ -9,7 +9,9 @@ use Rattle.std.specs.Borrow.{Bor}
 use Rattle.std.specs.List.{list_all}
 use Rattle.elf_archive.specs.Archive.{Item}
 use Rattle.nugwier_commands.specs.Run.{AreAllTold, AreFilesSaid, AreItemsSaid, ArePlacesSaid, AreWritten, IsFoundTold}
-use Rattle.nugwier_commands.specs.Run.{IsListingText, IsProblemsText, IsWritten, Known, Listing, Written}
+use Rattle.nugwier_commands.specs.Run.{AreListingTexts, Known, Listing}
+use Rattle.nugwier_report.specs.Told.{IsWritten}
+use Rattle.nugwier_report.specs.Texts.{Written}
 use Rattle.nugwier_commands.specs.Run.{heading_of, next_heading}
 use Rattle.nugwier_commands.specs.Walk.{AreFound, Found, IsNextFound}
 use Rattle.nugwier_commands.specs.declared.ended.Ended.{Ended}
@@ -20,8 +22,8 @@ use Rattle.nugwier_writing.specs.declared.kind.Kind.{Kind}
 use Rattle.nugwier_report.specs.declared.report.Format.{Format}
 use Rattle.nugwier_report.specs.declared.report.Summary.{Summary}
 use Rattle.nugwier_report.specs.Said.{all_right}
-use Rattle.nugwier_report.specs.Told.{IsLine, IsToldLine}
-use Rattle.nugwier_report.proofs.Telling.{appends_none, written_both as of_both, written_one as as_one}
+use Rattle.nugwier_report.specs.Told.{AreLines}
+use Rattle.nugwier_report.proofs.Telling.{written_both as of_both, written_none as of_none, written_one as as_one}
 use Rattle.nugwier_words.specs.Words.{Task}
 
 -- whether nothing is wrong, and whether no write of a problem failed
@@ -31,30 +33,24 @@ summary_of is_right is_told = record { is_right = is_right; is_told = is_told }
 abbrev are_right : List Listing → Bool
 are_right all = list_all (λ (listing : Listing). all_right listing.said) all
 
-both_true : (a b : Bool) → (a && b) ≡ true → (a ≡ true) × (b ≡ true)
-both_true true b h = (refl, h)
-both_true false b h = absurd (cc h)
-
 -- one listing
 pub written_one : (format : Format) (now next : Written) (summary : Summary) (own : Listing)
     → IsWritten format own.path own.named now next summary own.said → AreWritten format now next summary (own ∷ [])
 written_one format now next summary own written = (
-  as_one (IsLine format own.path own.named) (IsListingText format) now.out next.out own.said own (λ all is. is) written.0,
+  as_one (AreLines format own.path own.named) (AreListingTexts format) summary.is_told now next own.said own (λ out err are. are) written.0,
   written.1 ∙ sym (and-true (all_right own.said)),
-  λ kept. as_one (IsToldLine own.path own.named) IsProblemsText now.err next.err own.said own (λ all is. is) (written.2 kept),
 )
 
 written_both : (format : Format) (own rest : List Listing) (now next after : Written) (summary : Summary) (right told : Bool)
     → AreWritten format now next summary own → AreWritten format next after (summary_of right told) rest
     → AreWritten format now after (summary_of (summary.is_right && right) (summary.is_told && told)) (own ++ rest)
 written_both format own rest now next after summary right told is more = (
-  of_both (IsListingText format) now.out next.out after.out own rest is.0 more.0,
+  of_both (AreListingTexts format) summary.is_told told now next after own rest is.0 more.0,
   ap (λ (b : Bool). b && right) is.1 ∙ ap (λ (b : Bool). are_right own && b) more.1 ∙ sym (list_all-append (λ (listing : Listing). all_right listing.said) own rest),
-  λ kept. let both = both_true summary.is_told told kept in of_both IsProblemsText now.err next.err after.err own rest (is.2 both.0) (more.2 both.1),
 )
 
 written_none : (format : Format) (now : Written) → AreWritten format now now (summary_of true true) []
-written_none format now = (([], refl, appends_none now.out), refl, λ kept. ([], refl, appends_none now.err))
+written_none format now = (of_none (AreListingTexts format) now, refl)
 
 -- ---- some of it was said
 

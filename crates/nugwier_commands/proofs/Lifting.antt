@@ -2,7 +2,9 @@
 use Rattle.std.proofs.Common.{ℕ, List, [], ◌∷◌, ◌++◌, IfOk, Option}
 use Rattle.std.proofs.lemmas.Result.{IfOk-weaker}
 use Rattle.elf_archive.specs.Archive.{Item}
-use Rattle.nugwier_commands.specs.Run.{AreWritten, IsItemSaid, IsWritten, Known, Listing, Written, heading_said}
+use Rattle.nugwier_commands.specs.Run.{AreWritten, IsItemSaid, Known, Listing, heading_said}
+use Rattle.nugwier_report.specs.Told.{IsWritten}
+use Rattle.nugwier_report.specs.Texts.{Written}
 use Rattle.nugwier_commands.specs.Run.{listing_of}
 use Rattle.nugwier_commands.specs.declared.ended.Ended.{Ended}
 use Rattle.nugwier_commands.specs.inner.Loading.{AreSaidAndWritten, IsItemEnded, IsSaidAndWritten, written_by}

@@ -1,7 +1,9 @@
 -- What is said of a program is what is said of a file of its bytes.
 use Rattle.std.proofs.Common.{◌≡◌, ℕ, List, ◌++◌, IfOk, Option, sym, subst}
 use Rattle.std.proofs.lemmas.Result.{IfOk-weaker}
-use Rattle.nugwier_commands.specs.Run.{IsContentSaid, IsProgramSaid, IsWritten, Known, Written, heading_said}
+use Rattle.nugwier_commands.specs.Run.{IsContentSaid, IsProgramSaid, Known, heading_said}
+use Rattle.nugwier_report.specs.Told.{IsWritten}
+use Rattle.nugwier_report.specs.Texts.{Written}
 use Rattle.nugwier_commands.specs.declared.ended.Ended.{Ended}
 use Rattle.nugwier_commands.specs.inner.Loading.{IsSaidAndWritten, written_by}
 use Rattle.nugwier_report.specs.Labels.{Named, no_sections}

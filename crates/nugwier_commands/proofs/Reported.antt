@@ -2,7 +2,8 @@
 use Rattle.std.proofs.Common.{◌≡◌, ◌∙◌, ℕ, List, [], Result, Ok, false, ap, refl, subst, sym}
 use Rattle.std.proofs.lemmas.Result.{IfOk-weaker}
 use Rattle.std.specs.Result.{IfOk}
-use Rattle.nugwier_commands.specs.Run.{IsWritten, Written}
+use Rattle.nugwier_report.specs.Told.{IsWritten}
+use Rattle.nugwier_report.specs.Texts.{Written}
 use Rattle.nugwier_report.specs.Labels.{Named}
 use Rattle.nugwier_report.specs.Said.{Said, Telling, saying}
 use Rattle.nugwier_report.specs.declared.problem.Stop.{Stop}

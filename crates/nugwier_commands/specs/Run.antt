@@ -32,8 +32,8 @@ use Rattle.nugwier_report.specs.Said.{Said, all_right, said_if, states, whole, w
 use Rattle.nugwier_commands.specs.Walk.{AreFound, Found, file as file_at, named as place_named, unread}
 use Rattle.nugwier_commands.specs.declared.run.Outcome.{Outcome}
 use Rattle.nugwier_commands.specs.declared.run.Outcome.TheVariants.{Done, Stopped, Wrong}
-use Rattle.nugwier_report.specs.Texts.{AreAppended, AreTexts}
-use Rattle.nugwier_report.specs.Told.{AreProblemsTold, IsLine, IsTold, IsToldLine}
+use Rattle.nugwier_report.specs.Texts.{AreAppended, AreTexts, Written}
+use Rattle.nugwier_report.specs.Told.{AreLines}
 use Rattle.nugwier_writing.specs.declared.kind.Kind.{Kind}
 use Rattle.nugwier_writing.specs.declared.kind.Kind.TheVariants.{FileHeading, NextFileHeading}
 use Rattle.nugwier_report.specs.declared.problem.Fault.TheVariants.{OtherFormat, PastEnd, Read, System}
@@ -99,20 +99,6 @@ IsOpenedSaid task path bytes (Err e) named said =
 abbrev pub IsBytesSaid : Task → List ℕ → List ℕ → Named → List Said → Type 0
 IsBytesSaid task path bytes named said =
     IsOpenedSaid task path bytes (opened_file any_is_little any_of_byte bytes) named said
-
--- ---- what was written
-
--- what the writer of listings and that of problems have
-pub record Written : Type 0 where
-  pub out : Option (List ℕ)
-  pub err : Option (List ℕ)
-
--- what was said was written after what the writers had: its records, and, unless a write of a problem failed, its
--- problems. The summary says whether nothing of it is wrong
-abbrev pub IsWritten : Format → List ℕ → Named → Written → Written → Summary → List Said → Type 0
-IsWritten format path named before after summary said =
-    IsTold format path named before.out after.out said × (summary.is_right ≡ all_right said)
-    × (summary.is_told ≡ true → AreProblemsTold path named before.err after.err said)
 
 -- ---- the files of the words
 
@@ -183,18 +169,14 @@ abbrev pub listing_of : Option Kind → List ℕ → Named → List Said → Lis
 listing_of heading path named said = record { path = path; named = named; said = heading_said heading path ++ said }
 
 -- the text of what is said, and that of what is wrong
-abbrev pub IsListingText : Format → Listing → List ℕ → Type 0
-IsListingText format listing all = AreTexts (IsLine format listing.path listing.named) listing.said all
-
-abbrev pub IsProblemsText : Listing → List ℕ → Type 0
-IsProblemsText listing all = AreTexts (IsToldLine listing.path listing.named) listing.said all
+abbrev pub AreListingTexts : Format → Listing → List ℕ → List ℕ → Type 0
+AreListingTexts format listing out err = AreTexts (AreLines format listing.path listing.named) listing.said out err
 
 -- all that is said was written
 abbrev pub AreWritten : Format → Written → Written → Summary → List Listing → Type 0
 AreWritten format before after summary all =
-    AreAppended (IsListingText format) before.out after.out all
+    AreAppended (AreListingTexts format) false summary.is_told before after all
     × (summary.is_right ≡ list_all (λ (listing : Listing). all_right listing.said) all)
-    × (summary.is_told ≡ true → AreAppended IsProblemsText before.err after.err all)
 
 -- ---- an archive: each member is told as a file
 

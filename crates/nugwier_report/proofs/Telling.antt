@@ -3,22 +3,39 @@ use Rattle.std.proofs.Common.{◌≡◌, ℕ, Bool, true, false, ◌&&◌, List,
 use Rattle.std.specs.Io.KnownBytes.{Appends}
 use Rattle.std.specs.Result.{OnOk, is_ok}
 use Rattle.nugwier_report.specs.Said.{Said, all_right, is_right_one}
-use Rattle.nugwier_report.specs.Texts.{AreAppended, AreTexts}
+use Rattle.nugwier_report.specs.Texts.{AreAppended, AreTexts, Written}
 
 -- ---- texts of several things
 
-module _ {A : Type 0} (IsText : A → List ℕ → Type 0) where
-  -- the text of one more
-  pub texts_more : (xs : List A) (x : A) (all own : List ℕ) → AreTexts IsText xs all → IsText x own → AreTexts IsText (xs ++ x ∷ []) (all ++ own)
-  texts_more [] x all own h is = (own, [], is, refl, ap (λ (t : List ℕ). t ++ own) h ∙ sym (append-nil own))
-  texts_more (y ∷ ys) x all own (first, after, this, h, e) is =
-      (first, after ++ own, this, texts_more ys x after own h is, ap (λ (t : List ℕ). t ++ own) e ∙ append_assoc first after own)
+module _ {A : Type 0} (AreOf : A → List ℕ → List ℕ → Type 0) where
+  -- the texts of one more
+  pub texts_more : (xs : List A) (x : A) (out err own told : List ℕ) → AreTexts AreOf xs out err → AreOf x own told → AreTexts AreOf (xs ++ x ∷ []) (out ++ own) (err ++ told)
+  texts_more [] x out err own told (h, k) is =
+      (own, told, [], [], is, (refl, refl), ap (λ (t : List ℕ). t ++ own) h ∙ sym (append-nil own), ap (λ (t : List ℕ). t ++ told) k ∙ sym (append-nil told))
+  texts_more (y ∷ ys) x out err own told (o, e, others, rest, this, are, h, k) is = (
+    o,
+    e,
+    others ++ own,
+    rest ++ told,
+    this,
+    texts_more ys x others rest own told are is,
+    ap (λ (t : List ℕ). t ++ own) h ∙ append_assoc o others own,
+    ap (λ (t : List ℕ). t ++ told) k ∙ append_assoc e rest told,
+  )
 
   -- the texts of some, and then those of others
-  pub texts_both : (xs ys : List A) (s t : List ℕ) → AreTexts IsText xs s → AreTexts IsText ys t → AreTexts IsText (xs ++ ys) (s ++ t)
-  texts_both [] ys s t h k = rw h k
-  texts_both (x ∷ xs) ys s t (first, after, this, h, e) k =
-      (first, after ++ t, this, texts_both xs ys after t h k, ap (λ (u : List ℕ). u ++ t) e ∙ append_assoc first after t)
+  pub texts_both : (xs ys : List A) (s s' t t' : List ℕ) → AreTexts AreOf xs s s' → AreTexts AreOf ys t t' → AreTexts AreOf (xs ++ ys) (s ++ t) (s' ++ t')
+  texts_both [] ys s s' t t' (h, k) are = rw (h, k) are
+  texts_both (x ∷ xs) ys s s' t t' (o, e, others, rest, this, of, h, k) are = (
+    o,
+    e,
+    others ++ t,
+    rest ++ t',
+    this,
+    texts_both xs ys others rest t t' of are,
+    ap (λ (u : List ℕ). u ++ t) h ∙ append_assoc o others t,
+    ap (λ (u : List ℕ). u ++ t') k ∙ append_assoc e rest t',
+  )
 
 pub appends_both : (a b c : Option (List ℕ)) (x y : List ℕ) → Appends a b x → Appends b c y → Appends a c (x ++ y)
 appends_both None b c x y h k = tt
@@ -44,30 +61,59 @@ pub wrong_more : (said : List Said) (s : Said) → is_right_one s ≡ false → 
 wrong_more [] s h = ap (λ (b : Bool). b && true) h
 wrong_more (x ∷ xs) s h = ap (λ (b : Bool). is_right_one x && b) (wrong_more xs s h) ∙ and_false (is_right_one x)
 
-module _ {A : Type 0} (IsText : A → List ℕ → Type 0) where
-  -- a writer got the text of one more
-  pub written_more : (start start' now next : Option (List ℕ)) (said said' : List A) (s : A) (own : List ℕ)
-      → AreAppended IsText start now said → start' ≡ start → said' ≡ said ++ s ∷ [] → IsText s own → Appends now next own → AreAppended IsText start' next said'
-  written_more start start' now next said said' s own (all, texts, h) begun more is written =
-      rw (begun, more) (all ++ own, texts_more IsText said s all own texts is, appends_both start now next all own h written)
+abbrev pub start : Option (List ℕ) → Option (List ℕ) → Written
+start out err = record { out = out; err = err }
+
+both_true : (a b : Bool) → (a && b) ≡ true → (a ≡ true) × (b ≡ true)
+both_true true b h = (refl, h)
+both_true false b h = absurd (cc h)
+
+module _ {A : Type 0} (AreOf : A → List ℕ → List ℕ → Type 0) where
+  -- the writers got the texts of one more, each unless a write of it failed
+  pub written_more : (lost lost' told told' : Bool) (start start' now next : Written) (said said' : List A) (s : A) (own other : List ℕ)
+      → AreAppended AreOf lost told start now said → start' ≡ start → said' ≡ said ++ s ∷ [] → AreOf s own other
+      → (lost' ≡ false → (lost ≡ false) × Appends now.out next.out own)
+      → (told' ≡ true → (told ≡ true) × Appends now.err next.err other)
+      → AreAppended AreOf lost' told' start' next said'
+  written_more lost lost' told told' start start' now next said said' s own other (out, err, texts, h, k) begun more is listed telled =
+      rw (begun, more) (
+        out ++ own,
+        err ++ other,
+        texts_more AreOf said s out err own other texts is,
+        λ kept. let one = listed kept in appends_both start.out now.out next.out out own (h one.0) one.1,
+        λ kept. let one = telled kept in appends_both start.err now.err next.err err other (k one.0) one.1,
+      )
 
   -- the texts of some, and then those of others
-  pub written_both : (a b c : Option (List ℕ)) (xs ys : List A) → AreAppended IsText a b xs → AreAppended IsText b c ys → AreAppended IsText a c (xs ++ ys)
-  written_both a b c xs ys (s, is, h) (t, are, k) = (s ++ t, texts_both IsText xs ys s t is are, appends_both a b c s t h k)
+  pub written_both : (told told' : Bool) (a b c : Written) (xs ys : List A) → AreAppended AreOf false told a b xs → AreAppended AreOf false told' b c ys
+      → AreAppended AreOf false (told && told') a c (xs ++ ys)
+  written_both told told' a b c xs ys (s, s', is, h, h') (t, t', are, k, k') = (
+    s ++ t,
+    s' ++ t',
+    texts_both AreOf xs ys s s' t t' is are,
+    λ kept. appends_both a.out b.out c.out s t (h refl) (k refl),
+    λ kept. let both = both_true told told' kept in appends_both a.err b.err c.err s' t' (h' both.0) (k' both.1),
+  )
 
-  -- the texts of some as that of one
-  pub written_one : {B : Type 0} (IsOne : B → List ℕ → Type 0) (a b : Option (List ℕ)) (xs : List A) (x : B)
-      → ((all : List ℕ) → AreTexts IsText xs all → IsOne x all) → AreAppended IsText a b xs → AreAppended IsOne a b (x ∷ [])
-  written_one IsOne a b xs x one (t, is, h) = (t, (t, [], one t is, refl, sym (append-nil t)), h)
+  -- the texts of some as those of one
+  pub written_one : {B : Type 0} (AreOne : B → List ℕ → List ℕ → Type 0) (told : Bool) (a b : Written) (xs : List A) (x : B)
+      → ((out err : List ℕ) → AreTexts AreOf xs out err → AreOne x out err) → AreAppended AreOf false told a b xs → AreAppended AreOne false told a b (x ∷ [])
+  written_one AreOne told a b xs x one (s, t, is, h, k) =
+      (s, t, (s, t, [], [], one s t is, (refl, refl), sym (append-nil s), sym (append-nil t)), h, k)
 
--- the writer of problems got one line more, if no write of one failed
-pub told_more : {A X E : Type 0} (IsText : A → List ℕ → Type 0) (told : Bool) (r : Result X E) (start start' now next : Option (List ℕ)) (said said' : List A) (s : A) (own : List ℕ)
-    → (told ≡ true → AreAppended IsText start now said) → start' ≡ start → said' ≡ said ++ s ∷ [] → IsText s own → OnOk r (Appends now next own)
-    → (told && is_ok r) ≡ true → AreAppended IsText start' next said'
-told_more IsText false r start start' now next said said' s own h begun more is written kept = cc
-told_more IsText true (Err e) start start' now next said said' s own h begun more is written kept = cc
-told_more IsText true (Ok x) start start' now next said said' s own h begun more is written kept =
-    written_more IsText start start' now next said said' s own (h refl) begun more is written
+  pub written_none : (a : Written) → AreAppended AreOf false true a a []
+  written_none a = ([], [], (refl, refl), λ kept. appends_none a.out, λ kept. appends_none a.err)
+
+-- what the writers had, by the log of one
+pub begun_as : (out out' err : Option (List ℕ)) → out' ≡ out → start out' err ≡ start out err
+begun_as out out' err is = rw is refl
+
+-- an error of the writer of problems is remembered
+pub told_more : {X E : Type 0} (told : Bool) (r : Result X E) (now next : Option (List ℕ)) (own : List ℕ) → OnOk r (Appends now next own)
+    → (told && is_ok r) ≡ true → (told ≡ true) × Appends now next own
+told_more false r now next own written kept = absurd (cc kept)
+told_more true (Err e) now next own written kept = absurd (cc kept)
+told_more true (Ok x) now next own written kept = (refl, written)
 
 pub right_then : (right : Bool) (said said' : List Said) (s : Said) → right ≡ all_right said → said' ≡ said ++ s ∷ [] → is_right_one s ≡ true → right ≡ all_right said'
 right_then right said said' s h more is = rw more (h ∙ sym (right_more said s is))

@@ -1,5 +1,5 @@
 -- What a report writes: a line for each record and, as JSON, for each problem. Problems are also told elsewhere.
-use Rattle.std.specs.Prelude.{◌≡◌, ℕ, ◌&&◌, List, [], ◌∷◌, Option, Some, None, codes}
+use Rattle.std.specs.Prelude.{◌≡◌, ℕ, ◌&&◌, false, List, [], ◌∷◌, Option, Some, None, codes}
 use Rattle.elf_records.specs.declared.file.Class.{Class}
 use Rattle.nugwier_writing.specs.Json.{object}
 use Rattle.nugwier_writing.specs.Kinds.{is_heading, layout_of}
@@ -7,13 +7,14 @@ use Rattle.nugwier_report.specs.Labels.{Named, label_of}
 use Rattle.nugwier_report.specs.Parts.{part_member}
 use Rattle.nugwier_report.specs.Problems.{IsTextAt, problem_line}
 use Rattle.nugwier_writing.specs.Members.{Content, Members, number, text}
-use Rattle.nugwier_report.specs.Said.{Said, states, wrong}
+use Rattle.nugwier_report.specs.Said.{Said, all_right, states, wrong}
 use Rattle.nugwier_writing.specs.Text.{bold_if, look_of, row_text}
-use Rattle.nugwier_report.specs.Texts.{AreAppended}
+use Rattle.nugwier_report.specs.Texts.{AreAppended, Written}
 use Rattle.nugwier_writing.specs.declared.kind.Kind.{Kind}
 use Rattle.nugwier_report.specs.declared.problem.Part.{Part}
 use Rattle.nugwier_report.specs.declared.report.Format.{Format}
 use Rattle.nugwier_report.specs.declared.report.Format.TheVariants.{Json, Text}
+use Rattle.nugwier_report.specs.declared.report.Summary.{Summary}
 use Rattle.nugwier_writing.specs.declared.text.Style.{Style}
 
 -- ---- a record
@@ -49,23 +50,18 @@ problem_record (Text style) path place told = []
 
 -- ---- a report
 
--- what is written of what is said
-abbrev pub IsLine : Format → List ℕ → Named → Said → List ℕ → Type 0
-IsLine format path named (states kind members) line = line ≡ record_line format path named.class kind members
-IsLine format path named (wrong place fault) line =
+-- what is written of what is said: in listings, and of a problem the same text elsewhere
+abbrev pub AreLines : Format → List ℕ → Named → Said → List ℕ → List ℕ → Type 0
+AreLines format path named (states kind members) line problem =
+    (line ≡ record_line format path named.class kind members) × (problem ≡ [])
+AreLines format path named (wrong place fault) line problem =
     (told : List ℕ) × IsTextAt (label_of named place.part) place fault told
     × (line ≡ problem_record format path (place_member (label_of named place.part) place.part) told)
+    × (problem ≡ problem_line path told)
 
--- what is told of it elsewhere
-abbrev pub IsToldLine : List ℕ → Named → Said → List ℕ → Type 0
-IsToldLine path named (states kind members) line = line ≡ []
-IsToldLine path named (wrong place fault) line =
-    (told : List ℕ) × IsTextAt (label_of named place.part) place fault told × (line ≡ problem_line path told)
-
--- the writer got exactly the text of what was said
-abbrev pub IsTold : Format → List ℕ → Named → Option (List ℕ) → Option (List ℕ) → List Said → Type 0
-IsTold format path named start now said = AreAppended (IsLine format path named) start now said
-
--- the writer of problems got exactly their text
-abbrev pub AreProblemsTold : List ℕ → Named → Option (List ℕ) → Option (List ℕ) → List Said → Type 0
-AreProblemsTold path named start now said = AreAppended (IsToldLine path named) start now said
+-- what was said was written after what the writers had: its records, and, unless a write of a problem failed, its
+-- problems. The summary says whether nothing of it is wrong
+abbrev pub IsWritten : Format → List ℕ → Named → Written → Written → Summary → List Said → Type 0
+IsWritten format path named before after summary said =
+    AreAppended (AreLines format path named) false summary.is_told before after said
+    × (summary.is_right ≡ all_right said)

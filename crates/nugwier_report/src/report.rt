@@ -7,8 +7,8 @@ ghost use Rattle.nugwier_report.specs.Labels.{label_seen, named_by};
 ghost use Rattle.nugwier_writing.specs.Members.{member_said, members_said};
 ghost use Rattle.nugwier_report.specs.Problems.{IsTextAt, problem_line};
 ghost use Rattle.nugwier_report.specs.Said.{all_right, saying, states, unread, wrong};
-ghost use Rattle.nugwier_report.specs.Told.{AreProblemsTold, IsTold, object_if, place_member, problem_record};
-ghost use Rattle.nugwier_report.specs.Told.{record_line, text_of};
+ghost use Rattle.nugwier_report.specs.Texts.{AreAppended};
+ghost use Rattle.nugwier_report.specs.Told.{AreLines, object_if, place_member, problem_record, record_line, text_of};
 
 use crate::log::{Log, Note};
 use crate::names::Labels;
@@ -60,10 +60,11 @@ pub struct Summary {
 }
 
 impl<'p, W: Write, V: Write> Model for Report<'p, W, V> {
-    ghost use Rattle.std.specs.Prelude.{◌≡◌, false, true};
+    ghost use Rattle.std.specs.Prelude.{◌≡◌};
     ghost use Rattle.nugwier_report.specs.Labels.{named_by};
     ghost use Rattle.nugwier_report.specs.Said.{Telling, all_right};
-    ghost use Rattle.nugwier_report.specs.Told.{AreProblemsTold, IsTold};
+    ghost use Rattle.nugwier_report.specs.Texts.{AreAppended};
+    ghost use Rattle.nugwier_report.specs.Told.{AreLines};
 
     ghost Value = { Telling };
 
@@ -78,11 +79,10 @@ impl<'p, W: Write, V: Write> Model for Report<'p, W, V> {
       said = r.log.said;
     } };
 
-    ghost invariant = { λ r. (r.is_lost ≡ false → IsTold r.format r.path.now (named_by r.labels)
-        (W.contents r.log.start) (W.contents r.out) r.log.said)
-        × (r.is_right ≡ all_right r.log.said)
-        × (r.is_told ≡ true → AreProblemsTold r.path.now (named_by r.labels) (V.contents r.told.start)
-        (V.contents r.err) r.log.said) };
+    ghost invariant = { λ r. AreAppended (AreLines r.format r.path.now (named_by r.labels)) r.is_lost r.is_told
+        (record { out = W.contents r.log.start; err = V.contents r.told.start })
+        (record { out = W.contents r.out; err = V.contents r.err }) r.log.said
+        × (r.is_right ≡ all_right r.log.said) };
 }
 
 impl<'p, W: Write, V: Write> Report<'p, W, V> {
@@ -126,10 +126,9 @@ impl<'p, W: Write, V: Write> Report<'p, W, V> {
     /// Returns what the report came to, and the writers. Unless a write failed, they got the text of what was said.
     pub fn end(self) -> (Summary, W, V)
         ensures right { result.0.is_right ≡ all_right self.entry.said }
-        ensures text { self.entry.is_lost ≡ false → IsTold self.entry.format self.entry.path self.entry.named
-            self.entry.start (W.contents result.1) self.entry.said }
-        ensures problems { result.0.is_told ≡ true → AreProblemsTold self.entry.path self.entry.named
-            self.entry.told_start (V.contents result.2) self.entry.said }
+        ensures written { AreAppended (AreLines self.entry.format self.entry.path self.entry.named) self.entry.is_lost
+            result.0.is_told (record { out = self.entry.start; err = self.entry.told_start })
+            (record { out = W.contents result.1; err = V.contents result.2 }) self.entry.said }
     {
         let Report {
             alloc: _,

@@ -5,8 +5,10 @@ use Rattle.elf.specs.ElfStream.{StreamView}
 use Rattle.elf.specs.StreamFile.{stream_file}
 use Rattle.elf_libraries.specs.Tree.{Found, file_of, without_bytes}
 use Rattle.elf_archive.specs.Archive.{Item}
-use Rattle.nugwier_commands.specs.Run.{ArePathSaid, AreWritten, IsBytesSaid, IsItemSaid, IsSaidAt, IsWritten, Known}
-use Rattle.nugwier_commands.specs.Run.{IsFileSaid, IsWrong, Listing, Saying, Written, heading_said, lost_fault}
+use Rattle.nugwier_commands.specs.Run.{ArePathSaid, AreWritten, IsBytesSaid, IsItemSaid, IsSaidAt, Known}
+use Rattle.nugwier_report.specs.Told.{IsWritten}
+use Rattle.nugwier_commands.specs.Run.{IsFileSaid, IsWrong, Listing, Saying, heading_said, lost_fault}
+use Rattle.nugwier_report.specs.Texts.{Written}
 use Rattle.nugwier_report.specs.Labels.{Named}
 use Rattle.nugwier_report.specs.declared.report.Summary.{Summary}
 use Rattle.nugwier_commands.specs.declared.ended.Ended.{Ended}

@@ -1,7 +1,7 @@
 use Rattle.std.proofs.Common.{◌&&◌, Option, subst, sym}
 use Rattle.elf_archive.specs.Archive.{item_view, members_left}
 use Rattle.nugwier_commands.proofs.AllFiles.{AreMembersSoFar, member_ended, members_ended}
-use Rattle.nugwier_commands.specs.Run.{Written}
+use Rattle.nugwier_report.specs.Texts.{Written}
 use Rattle.nugwier_commands.specs.inner.Loading.{written_by}
 use Rattle.nugwier_writing.specs.declared.kind.Kind.{Kind}
 use Rattle.nugwier_words.specs.Words.{task_of}

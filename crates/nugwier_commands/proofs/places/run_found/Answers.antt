@@ -1,6 +1,7 @@
 use Rattle.std.proofs.Common.{ℕ, List, refl, subst}
 use Rattle.nugwier_commands.proofs.Lifting.{as_all, as_problem}
-use Rattle.nugwier_commands.specs.Run.{IsFoundTold, IsProblemSaid, Written}
+use Rattle.nugwier_commands.specs.Run.{IsFoundTold, IsProblemSaid}
+use Rattle.nugwier_report.specs.Texts.{Written}
 use Rattle.nugwier_commands.specs.Walk.{unread}
 use Rattle.nugwier_commands.specs.inner.Loading.{AreSaidAndWritten}
 use Rattle.nugwier_report.specs.declared.problem.Fault.TheVariants.{System}

@@ -1,6 +1,7 @@
 use Rattle.std.proofs.Common.{◌&&◌, None, Option, map, subst, sym}
 use Rattle.nugwier_commands.proofs.AllFiles.{ArePlacesSoFar, found_ended, places_ended}
-use Rattle.nugwier_commands.specs.Run.{Written, first_heading}
+use Rattle.nugwier_commands.specs.Run.{first_heading}
+use Rattle.nugwier_report.specs.Texts.{Written}
 use Rattle.nugwier_commands.specs.Walk.{found_view, named, places_of}
 use Rattle.nugwier_commands.specs.inner.Loading.{written_by}
 use Rattle.nugwier_writing.specs.declared.kind.Kind.{Kind}

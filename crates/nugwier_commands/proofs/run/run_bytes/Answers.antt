@@ -4,7 +4,8 @@ use Rattle.elf_reading.specs.Opening.{opened_file}
 use Rattle.elf_records.specs.Endian.{any_is_little, any_of_byte}
 use Rattle.nugwier_commands.proofs.Lifting.{as_said}
 use Rattle.nugwier_commands.proofs.Unopened.{opened_said}
-use Rattle.nugwier_commands.specs.Run.{IsBytesSaid, IsViewSaid, Written}
+use Rattle.nugwier_commands.specs.Run.{IsBytesSaid, IsViewSaid}
+use Rattle.nugwier_report.specs.Texts.{Written}
 use Rattle.nugwier_commands.specs.inner.Loading.{IsSaidAfter}
 use Rattle.nugwier_words.specs.Words.{task_of}
 use Rattle.nugwier_commands.proofs.run.run_bytes.Goals as goal

@@ -1,5 +1,5 @@
 use Rattle.nugwier_commands.proofs.Programs.{of_bindings, of_tree}
-use Rattle.nugwier_commands.specs.Run.{Written}
+use Rattle.nugwier_report.specs.Texts.{Written}
 use Rattle.nugwier_words.specs.Words.{task_of}
 use Rattle.nugwier_commands.proofs.run.run_content.Goals as goal
 

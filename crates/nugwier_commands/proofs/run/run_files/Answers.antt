@@ -3,7 +3,8 @@ use Rattle.std.proofs.lemmas.List.{drop_all}
 use Rattle.std.specs.Borrow.{Bor}
 use Rattle.nugwier_commands.proofs.AllFiles.{IsDone, all_ended, first_of_all, one_ended}
 use Rattle.nugwier_words.specs.Words.{task_of}
-use Rattle.nugwier_commands.specs.Run.{AreFilesSaid, Written}
+use Rattle.nugwier_commands.specs.Run.{AreFilesSaid}
+use Rattle.nugwier_report.specs.Texts.{Written}
 use Rattle.nugwier_commands.proofs.run.run_files.Goals as goal
 
 pub loop-place-init : goal.loop-place-init

@@ -1,7 +1,8 @@
 use Rattle.std.proofs.Common.{refl, sym, ◌∙◌}
 use Rattle.nugwier_commands.proofs.Begun.{elf_said, other_said}
 use Rattle.nugwier_commands.proofs.Lifting.{as_all, as_problem}
-use Rattle.nugwier_commands.specs.Run.{ArePathSaid, IsContentSaid, IsProblemSaid, IsSaidAt, Written}
+use Rattle.nugwier_commands.specs.Run.{ArePathSaid, IsContentSaid, IsProblemSaid, IsSaidAt}
+use Rattle.nugwier_report.specs.Texts.{Written}
 use Rattle.nugwier_words.specs.Words.{task_of}
 use Rattle.nugwier_commands.proofs.run.run_front.Goals as goal
 

@@ -3,7 +3,9 @@ use Rattle.std.proofs.lemmas.Result.{IfOk-weaker}
 use Rattle.std.specs.IoError.{error_kind}
 use Rattle.nugwier_commands.proofs.Begun.{missing_as, missing_from, read_as}
 use Rattle.nugwier_commands.proofs.Lifting.{as_problem}
-use Rattle.nugwier_commands.specs.Run.{IsProgramSaid, IsSaidAt, IsWritten, Saying, Written, heading_said}
+use Rattle.nugwier_commands.specs.Run.{IsProgramSaid, IsSaidAt, Saying, heading_said}
+use Rattle.nugwier_report.specs.Told.{IsWritten}
+use Rattle.nugwier_report.specs.Texts.{Written}
 use Rattle.nugwier_commands.specs.inner.Loading.{written_by}
 use Rattle.nugwier_report.specs.Labels.{Named, no_sections}
 use Rattle.nugwier_report.specs.Said.{Said, whole, wrong}

@@ -2,7 +2,8 @@ use Rattle.std.proofs.Common.{refl, ◌∙◌}
 use Rattle.std.specs.IoError.{error_kind}
 use Rattle.nugwier_commands.proofs.Begun.{missing_from, missing_said}
 use Rattle.nugwier_commands.proofs.Lifting.{as_all, as_problem}
-use Rattle.nugwier_commands.specs.Run.{ArePathSaid, IsProblemSaid, Written}
+use Rattle.nugwier_commands.specs.Run.{ArePathSaid, IsProblemSaid}
+use Rattle.nugwier_report.specs.Texts.{Written}
 use Rattle.nugwier_report.specs.declared.problem.Fault.TheVariants.{System}
 use Rattle.nugwier_words.specs.Words.{task_of}
 use Rattle.nugwier_commands.proofs.run.run_read.Goals as goal

@@ -1,7 +1,9 @@
 use Rattle.std.proofs.Common.{◌++◌, List}
 use Rattle.std.proofs.lemmas.Result.{IfOk-weaker}
 use Rattle.elf_libraries.specs.Tree.{found_view}
-use Rattle.nugwier_commands.specs.Run.{IsProgramSaid, IsSaidAt, IsWritten, Written, heading_said, search_of}
+use Rattle.nugwier_commands.specs.Run.{IsProgramSaid, IsSaidAt, heading_said, search_of}
+use Rattle.nugwier_report.specs.Told.{IsWritten}
+use Rattle.nugwier_report.specs.Texts.{Written}
 use Rattle.nugwier_commands.specs.inner.Loading.{written_by}
 use Rattle.nugwier_report.specs.Labels.{Named, no_sections}
 use Rattle.nugwier_commands.proofs.Trees.{tree_said}

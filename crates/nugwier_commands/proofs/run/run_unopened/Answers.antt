@@ -3,7 +3,8 @@ use Rattle.elf_reading.specs.Opening.{opened_by_segments}
 use Rattle.elf_records.specs.Endian.{any_is_little, any_of_byte}
 use Rattle.nugwier_commands.proofs.Lifting.{as_problem}
 use Rattle.nugwier_commands.proofs.Unopened.{checked_said, lost_said}
-use Rattle.nugwier_commands.specs.Run.{IsUnopenedSaid, Written}
+use Rattle.nugwier_commands.specs.Run.{IsUnopenedSaid}
+use Rattle.nugwier_report.specs.Texts.{Written}
 use Rattle.nugwier_report.specs.Labels.{no_sections}
 use Rattle.nugwier_report.specs.Said.{whole, wrong}
 use Rattle.nugwier_report.specs.declared.problem.Fault.TheVariants.{Read}

@@ -2,7 +2,8 @@ use Rattle.std.proofs.Common.{[], ◌∷◌, ◌∙◌, refl}
 use Rattle.std.specs.IoError.{error_kind}
 use Rattle.nugwier_commands.proofs.Begun.{missing_as, missing_from}
 use Rattle.nugwier_commands.proofs.Lifting.{as_problem}
-use Rattle.nugwier_commands.specs.Run.{IsBytesSaid, IsSaidAt, Saying, Written}
+use Rattle.nugwier_commands.specs.Run.{IsBytesSaid, IsSaidAt, Saying}
+use Rattle.nugwier_report.specs.Texts.{Written}
 use Rattle.nugwier_report.specs.Labels.{no_sections}
 use Rattle.nugwier_report.specs.Said.{whole, wrong}
 use Rattle.nugwier_report.specs.declared.problem.Fault.TheVariants.{System}

@@ -1,6 +1,7 @@
 use Rattle.std.proofs.Common.{◌++◌}
 use Rattle.elf_libraries.specs.Tree.{found_view}
-use Rattle.nugwier_commands.specs.Run.{Written, heading_said, search_of}
+use Rattle.nugwier_commands.specs.Run.{heading_said, search_of}
+use Rattle.nugwier_report.specs.Texts.{Written}
 use Rattle.nugwier_commands.specs.inner.Loading.{written_by}
 use Rattle.nugwier_commands.proofs.Reported.{all_said}
 use Rattle.nugwier_programs.specs.Tree.{IsNamedSaid}

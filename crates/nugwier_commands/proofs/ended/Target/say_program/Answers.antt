@@ -1,5 +1,6 @@
 use Rattle.std.proofs.Common.{◌++◌}
-use Rattle.nugwier_commands.specs.Run.{IsProgramSaid, Written, heading_said}
+use Rattle.nugwier_commands.specs.Run.{IsProgramSaid, heading_said}
+use Rattle.nugwier_report.specs.Texts.{Written}
 use Rattle.nugwier_commands.specs.inner.Loading.{written_by}
 use Rattle.nugwier_commands.proofs.Reported.{all_said}
 use Rattle.nugwier_report.specs.Labels.{no_sections}

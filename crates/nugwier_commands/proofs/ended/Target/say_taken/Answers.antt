@@ -1,6 +1,7 @@
 use Rattle.std.proofs.Common.{◌++◌}
 use Rattle.nugwier_listing.specs.inner.Job.{IsTablesSaid}
-use Rattle.nugwier_commands.specs.Run.{Written, heading_said}
+use Rattle.nugwier_commands.specs.Run.{heading_said}
+use Rattle.nugwier_report.specs.Texts.{Written}
 use Rattle.nugwier_commands.specs.inner.Loading.{unread_said, written_by}
 use Rattle.nugwier_commands.proofs.Reported.{all_said}
 use Rattle.nugwier_report.specs.Labels.{named_by}

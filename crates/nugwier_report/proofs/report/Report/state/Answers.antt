@@ -2,32 +2,32 @@ use Rattle.std.proofs.Common.{[], ap, refl}
 use Rattle.nugwier_report.specs.Labels.{named_by}
 use Rattle.nugwier_writing.specs.Members.{members_said}
 use Rattle.nugwier_report.specs.Said.{Said, states}
-use Rattle.nugwier_report.specs.Told.{IsLine, IsToldLine}
-use Rattle.nugwier_report.proofs.Telling.{appends_none, right_then, written_more}
+use Rattle.nugwier_report.specs.Told.{AreLines, record_line}
+use Rattle.nugwier_report.proofs.Telling.{appends_none, begun_as, right_then, written_more}
 use Rattle.nugwier_report.proofs.report.Report.state.Goals as goal
 
 pub invariant_of-self : goal.invariant_of-self
 invariant_of-self g c =
-    let told = g.V.Write.contents in
     let r = c.self.inside in
     let held = c.self.invariant in
+    let log = c.then-self-inside in
+    let named = named_by r.labels in
     let said : Said = states c.args.kind (members_said c.args.members.now) in
-    let more = c.then-self-inside.ensures.1 in (
-      λ kept. cc,
-      right_then r.is_right r.log.said _ said held.1 more refl,
-      λ kept. written_more (IsToldLine r.path.now (named_by r.labels)) (told r.told.start) (told r.told.start) (told r.err) (told r.err) r.log.said _ said [] (held.2 kept) refl more refl (appends_none (told r.err)),
+    let line = record_line r.format r.path.now named.class c.args.kind (members_said c.args.members.now) in (
+      written_more (AreLines r.format r.path.now named) _ _ _ _ _ _ _ _ _ _ said line [] held.0 (begun_as (g.W.Write.contents r.log.start) (g.W.Write.contents log.result.start) (g.V.Write.contents r.told.start) (ap g.W.Write.contents log.ensures.0)) log.ensures.1 (refl, refl)
+          (λ kept. absurd (cc kept)) (λ kept. (kept, appends_none (g.V.Write.contents r.err))),
+      right_then r.is_right r.log.said _ said held.1 log.ensures.1 refl,
     )
 
 pub invariant_of-self-in_default : goal.invariant_of-self-in_default
 invariant_of-self-in_default g c =
-    let contents = g.W.Write.contents in
-    let told = g.V.Write.contents in
     let r = c.self.inside in
     let held = c.self.invariant in
     let log = c.then-self-inside in
+    let named = named_by r.labels in
     let said : Said = states c.args.kind (members_said c.args.members.now) in
-    let more = log.ensures.1 in (
-      λ kept. written_more (IsLine r.format r.path.now (named_by r.labels)) (contents r.log.start) (contents log.result.start) (contents r.out) _ r.log.said _ said _ (held.0 kept) (ap contents log.ensures.0) more refl c.in_default.ensures,
-      right_then r.is_right r.log.said _ said held.1 more refl,
-      λ kept. written_more (IsToldLine r.path.now (named_by r.labels)) (told r.told.start) (told r.told.start) (told r.err) (told r.err) r.log.said _ said [] (held.2 kept) refl more refl (appends_none (told r.err)),
+    let line = record_line r.format r.path.now named.class c.args.kind (members_said c.args.members.now) in (
+      written_more (AreLines r.format r.path.now named) _ _ _ _ _ _ _ _ _ _ said line [] held.0 (begun_as (g.W.Write.contents r.log.start) (g.W.Write.contents log.result.start) (g.V.Write.contents r.told.start) (ap g.W.Write.contents log.ensures.0)) log.ensures.1 (refl, refl)
+          (λ kept. (kept, c.in_default.ensures)) (λ kept. (kept, appends_none (g.V.Write.contents r.err))),
+      right_then r.is_right r.log.said _ said held.1 log.ensures.1 refl,
     )
