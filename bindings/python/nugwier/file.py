@@ -390,7 +390,8 @@ class ElfFile:
     @property
     def needed(self) -> List[str]:
         """The libraries that are needed (DT_NEEDED), in order. A name that cannot be read is an error."""
-        names, place, library, needed = self._dynamic_names(), ctypes.c_size_t(0), c.Needed(), []
+        names, place, library = self._dynamic_names(), ctypes.c_size_t(0), c.Needed()
+        needed: List[str] = []
         while True:
             c.call("needed", byref(names), byref(place), byref(library))
             if not library.found:
