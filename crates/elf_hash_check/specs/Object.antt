@@ -1,6 +1,6 @@
 -- An object as a look-up sees it: a hash table of the one kind or the other, with its symbols.
 use Rattle.std.specs.Prelude.{ℕ, Bool, List, Option, Result}
-use Rattle.elf_parts.specs.GnuFind.{GnuTable, gnu_section}
+use Rattle.elf_parts.specs.GnuFind.{GnuTable, excludes as gnu_excludes, gnu_section}
 use Rattle.elf_parts.specs.Hash.{word_count}
 use Rattle.elf_records.specs.Number.{ok_map}
 use Rattle.elf_parts.specs.SysvFind.{SysvTable, sysv_section}
@@ -43,6 +43,11 @@ indexed_count (ByGnu s) = word_count s.table.chains
 abbrev pub Scan : Object → List ℕ → ℕ → Type 0
 Scan (BySysv s) = ScanSysv s
 Scan (ByGnu s) = ScanGnu s
+
+-- whether the section's filter tells that no symbol has a name with a hash; a SysV section has no filter
+abbrev pub excludes : Object → ℕ → Bool
+excludes (BySysv s) hash = Bool.false
+excludes (ByGnu s) hash = gnu_excludes s.table hash
 
 -- what the look-up of a sound table finds: the first one of its chain, the least one
 abbrev pub IsFound : Object → List ℕ → Option (ℕ × Symbol) → Type 0

@@ -3,6 +3,7 @@ pub mod Tables
 pub mod Missing
 pub mod Naming
 mod Copying
+mod Unnamed
 pub mod BySegments
 pub mod Linked
 pub mod Whole

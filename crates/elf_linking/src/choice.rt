@@ -1,6 +1,7 @@
 //! Finds the symbol to which a reference binds, in one object and in a list of objects.
 ghost use Rattle.std.specs.Prelude.{◌≡◌};
 ghost use Rattle.std.specs.Option.{option_map};
+ghost use Rattle.elf_parts.specs.Hash.{gnu_hash_of};
 ghost use Rattle.elf_hash_check.specs.NamedSymbols.{named_left};
 ghost use Rattle.elf_linking.specs.Binding.{IsBinding, IsBindingFor, first_serving, passes_over, serves_in};
 ghost use Rattle.elf_linking.specs.VersionedView.{versioned_view};
@@ -11,6 +12,7 @@ use crate::{
 };
 use elf::endian::EndianParse;
 use elf::gnu_symver::SymbolVersions;
+use elf::hash::gnu_hash;
 use elf::symbol::Symbol;
 use elf_hash_check::hashcheck::NamedSymbols;
 
@@ -114,17 +116,23 @@ impl<'data, E: EndianParse, V: SymbolVersions<E>> VersionedObject<'data, E, V> {
         }
     }
 
-    // What the object, which is at this place, has for a reference of a kind.
+    // What the object, which is at this place, has for a reference of a kind to a name with this hash. The filters of most
+    // objects tell by the hash alone that they have no such name.
     fn find_at(
         &self,
         place: usize,
         kind: ReferenceKind,
         name: &[u8],
+        hash: u32,
         wanted: &Wanted<'_>,
     ) -> Result<Option<(usize, Symbol)>, Unreadable>
+        requires { hash ≡ gnu_hash_of name.now }
         ensures { IsFoundAt kind place (versioned_view V.versions self.now) name.now wanted.now result }
     {
         if passes_over(kind, place) {
+            return Ok(None);
+        }
+        if self.table.excludes(hash) {
             return Ok(None);
         }
         self.find_for(kind, name, wanted)
@@ -165,8 +173,9 @@ pub fn bind_for<E: EndianParse, V: SymbolVersions<E>>(
 ) -> Result<Option<(usize, usize, Symbol)>, BindingFault>
     ensures { IsBindingFor (versioned_view V.versions) objects.now name.now wanted.now kind result }
 {
+    let hash = gnu_hash(name);
     for (object, candidate) in objects.iter().enumerate() {
-        match candidate.find_at(object, kind, name, wanted) {
+        match candidate.find_at(object, kind, name, hash, wanted) {
             Ok(Some((index, symbol))) => return Ok(Some((object, index, symbol))),
             Ok(None) => {}
             Err(fault) => {

@@ -9,6 +9,7 @@ pub mod Multiples
 pub mod Hashing
 pub mod HashWords
 pub mod Powers
+pub mod Excluded
 pub mod Walks
 pub mod Runs
 pub mod Named

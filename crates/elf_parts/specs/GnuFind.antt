@@ -1,5 +1,5 @@
 -- GNU hash sections, and what is found by them.
-use Rattle.std.specs.Prelude.{ℕ, ◌+◌, ◌-◌, ◌*◌, ◌/◌, ◌%◌, ◌^◌, ◌<◌, zero, suc, Bool, false, ◌||◌, if◌then◌else◌, ◌==◌}
+use Rattle.std.specs.Prelude.{ℕ, ◌+◌, ◌-◌, ◌*◌, ◌/◌, ◌%◌, ◌^◌, ◌<◌, zero, suc, Bool, false, not, ◌||◌, if◌then◌else◌, ◌==◌}
 use Rattle.std.specs.Prelude.{nat_lt, nat_le, List, [], ◌∷◌, drop, map, Option, None, Result, Ok, Err, IsOk}
 use Rattle.std.specs.Int.{bit_at}
 use Rattle.elf_records.specs.Class.{address_bits, address_size}
@@ -69,6 +69,11 @@ abbrev pub run : Table → ℕ → ℕ → List ℕ
 run chains zero place = []
 run chains (suc limit) place = place ∷ run_on (word_at chains place) (run chains limit (place + 1))
 
+-- whether bits that are set or clear, or cannot be read, tell that a hash does not pass
+abbrev pub excluded_by : Result Bool ParseError → Bool
+excluded_by (Ok passed) = not passed
+excluded_by (Err e) = false
+
 module _ (t : GnuTable) where
   -- the bloom word of a hash
   abbrev pub bloom_of : ℕ → Result ℕ ParseError
@@ -81,6 +86,10 @@ module _ (t : GnuTable) where
       if bit_at word (hash % address_bits t.bloom.class) == 0 then Ok false
       else if nat_le 32 t.hdr.nshift then Err IntegerOverflow
       else Ok (bit_at word (hash / 2 ^ t.hdr.nshift % address_bits t.bloom.class) == 1)
+
+  -- whether the bloom words tell that no name has a hash: there are none, or one of the two bits is clear
+  abbrev pub excludes : ℕ → Bool
+  excludes hash = t.hdr.nbloom == 0 || excluded_by (passes hash)
 
   -- the bloom words that the header counts can be read
   abbrev pub ReadsBloom : Type 0

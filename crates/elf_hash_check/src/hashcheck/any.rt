@@ -1,5 +1,6 @@
 //! The check of a section of either kind, and the table that it gives.
-ghost use Rattle.std.specs.Prelude.{◌≡◌};
+ghost use Rattle.std.specs.Prelude.{◌≡◌, ℕ, List, [], true};
+ghost use Rattle.elf_parts.specs.Hash.{gnu_hash_of};
 ghost use Rattle.elf_records.specs.StringTable.{strings_view};
 ghost use Rattle.elf_records.specs.Table.{table_view};
 ghost use Rattle.elf_hash_check.specs.CheckedTable.{object_view};
@@ -40,7 +41,7 @@ pub type AnyChecked<'data, E> = HashSection<CheckedSysvHash<'data, E>, CheckedGn
 
 impl<'data, E: EndianParse> HashSection<CheckedSysvHash<'data, E>, CheckedGnuHash<'data, E>> {
     ghost use Rattle.elf_hash_check.specs.NamedSymbols.{AreAllNamed, named_left};
-    ghost use Rattle.elf_hash_check.specs.Object.{Indexed, IsFound, indexed_count};
+    ghost use Rattle.elf_hash_check.specs.Object.{Indexed, IsFound, excludes, indexed_count};
 
     /// Returns the index and the symbol of a name: of a GNU section the least such index, of a SysV section the first
     /// along its chain. Returns `None` exactly if no indexed symbol has the name. The table comes from `check_any` or,
@@ -78,6 +79,30 @@ impl<'data, E: EndianParse> HashSection<CheckedSysvHash<'data, E>, CheckedGnuHas
         match self {
             AnyChecked::Sysv(table) => table.find_all(name),
             AnyChecked::Gnu(table) => table.find_all(name),
+        }
+    }
+
+    /// Returns whether the section's filter tells that no indexed symbol has a name with this hash
+    /// (`elf::hash::gnu_hash`), of which most can be told so. Who looks for one name in many files takes its hash once.
+    /// A SysV section has no filter, and excludes none.
+    ///
+    /// ```rust
+    /// let hash = gnu_hash(b"malloc");
+    /// if let Some(table) = object_table(&file)?
+    ///     && !table.excludes(hash)
+    ///     && let Some((index, _)) = table.find(b"malloc")
+    /// {
+    ///     println!(rt; "symbol {index}")?;
+    /// }
+    /// ```
+    pub fn excludes(&self, hash: u32) -> bool
+        ensures value { result ≡ excludes (object_view self.now) hash }
+        ensures none { result ≡ true → (name : List ℕ) → gnu_hash_of name ≡ hash
+            → AreAllNamed (object_view self.now) name [] }
+    {
+        match self {
+            AnyChecked::Sysv(_) => false,
+            AnyChecked::Gnu(table) => table.excludes(hash),
         }
     }
 

@@ -1,7 +1,7 @@
 //! GNU sections that are sound.
-ghost use Rattle.std.specs.Prelude.{◌≡◌};
-ghost use Rattle.elf_parts.specs.GnuFind.{gnu_view};
-ghost use Rattle.elf_parts.specs.Hash.{word_count};
+ghost use Rattle.std.specs.Prelude.{◌≡◌, ℕ, List, [], true};
+ghost use Rattle.elf_parts.specs.GnuFind.{excludes, gnu_view};
+ghost use Rattle.elf_parts.specs.Hash.{gnu_hash_of, word_count};
 ghost use Rattle.elf_hash_check.specs.Indexed.{IndexedGnu, IsLeastNamed, IsNumberOf};
 ghost use Rattle.elf_hash_check.specs.NamedSymbols.{AreAllNamed, named_left};
 ghost use Rattle.elf_hash_check.specs.Object.{Object};
@@ -43,6 +43,15 @@ impl<'data, E: EndianParse> CheckedGnuHash<'data, E> {
             Ok(found) => found,
             Err(_) => None,
         }
+    }
+
+    /// Returns whether the bloom words tell that no indexed symbol has a name with this hash (`gnu_hash`).
+    pub fn excludes(&self, hash: u32) -> bool
+        ensures value { result ≡ excludes (checked_gnu_view self.now).table hash }
+        ensures none { result ≡ true → (name : List ℕ) → gnu_hash_of name ≡ hash
+            → AreAllNamed (Object.ByGnu (checked_gnu_view self.now)) name [] }
+    {
+        self.table.excludes(hash)
     }
 
     // The indexes of a run, starting at the index that `find` returns, if it returns one.

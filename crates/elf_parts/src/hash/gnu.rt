@@ -1,12 +1,12 @@
 //! GNU hash sections.
-ghost use Rattle.std.specs.Prelude.{◌≡◌, ◌-◌, ◌%◌, ◌<◌, ◌≤◌, IfNone, IfSome, IsErr, None, Ok};
+ghost use Rattle.std.specs.Prelude.{◌≡◌, ◌-◌, ◌%◌, ◌<◌, ◌≤◌, ℕ, IfNone, IfSome, IsErr, List, None, Ok, true};
 ghost use Rattle.elf_records.specs.Class.{address_bits};
 ghost use Rattle.elf_parts.specs.GnuFind.{bloom_word, find_by_hash, find_in_run, gnu_find, gnu_of_parts, gnu_section};
-ghost use Rattle.elf_parts.specs.GnuFind.{gnu_view, passes, word_decides};
+ghost use Rattle.elf_parts.specs.GnuFind.{excludes, gnu_view, passes, word_decides};
 ghost use Rattle.elf_parts.specs.Hash.{gnu_hash_of, word_count};
 ghost use Rattle.elf_records.specs.Number.{ok_map};
 ghost use Rattle.elf_records.specs.StringTable.{strings_view};
-ghost use Rattle.elf_records.specs.Table.{table_in, table_view};
+ghost use Rattle.elf_records.specs.Table.{Table, table_in, table_view};
 
 mod eight;
 
@@ -227,6 +227,34 @@ impl<'data, E: EndianParse> GnuHashTable<'data, E> {
             .checked_shr(self.hdr.nshift)
             .ok_or(ParseError::IntegerOverflow)?;
         Ok((word >> (second % bits)) & 1 == 1)
+    }
+
+    /// Returns whether the bloom words tell that the section has no name with this hash (`gnu_hash`): `find` of such a
+    /// name returns `None`. Most names that are not in a section are excluded so, and none that is in a sound one. Of
+    /// bloom bits that cannot be read nothing is told.
+    ///
+    /// ```rust
+    /// // One hash serves for all files.
+    /// let hash = gnu_hash(b"malloc");
+    /// if let Some(table) = file.find_common_data()?.gnu_hash
+    ///     && !table.excludes(hash)
+    /// {
+    ///     println!(rt; "perhaps malloc is there")?;
+    /// }
+    /// ```
+    #[inline(always)]
+    pub fn excludes(&self, hash: u32) -> bool
+        ensures value { result ≡ excludes (gnu_view self.now) hash }
+        ensures none { result ≡ true → (symbols : Table) → (strings name : List ℕ) → gnu_hash_of name ≡ hash
+            → gnu_find (gnu_view self.now) symbols strings name ≡ Ok None }
+    {
+        if self.hdr.nbloom == 0 {
+            return true;
+        }
+        match self.passes(hash) {
+            Ok(passes) => !passes,
+            Err(_) => false,
+        }
     }
 
     // The error of bloom bits that cannot be read.
