@@ -2,6 +2,7 @@
 //! (`memory`); of both those below a folder (`below`). `named` opens the libraries among them by their names alone.
 #![tactic(auto)]
 
+mod asked;
 pub mod below;
 pub mod files;
 pub mod folder;

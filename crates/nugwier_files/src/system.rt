@@ -1,6 +1,7 @@
 //! The files of the operating system.
 ghost use Rattle.std.specs.Prelude.{None};
 
+use crate::asked::AskedFolders;
 use crate::files::Files;
 use crate::folder::{Entry, EntryKind};
 use crate::opening::Opening;
@@ -21,12 +22,28 @@ const FRONT: u64 = 16;
 #[derive(Drop)]
 pub struct SystemFiles<'a> {
     rt: &'a HostRuntime,
+    asked: AskedFolders,
 }
 
 impl<'a> SystemFiles<'a> {
     /// Returns the files that this runtime can open.
     pub fn new(rt: &'a HostRuntime) -> Self {
-        SystemFiles { rt }
+        SystemFiles {
+            rt,
+            asked: AskedFolders::new(rt.alloc()),
+        }
+    }
+
+    // What becomes of a library that could not be opened. Whether an allocation fails again, reading it whole tells.
+    fn unopened(&self, path: &str, error: io::ErrorKind) -> Opening<FileSource> {
+        match error {
+            io::ErrorKind::OutOfMemory => Opening::Whole,
+            io::ErrorKind::NotFound => {
+                self.asked.ask_for_folder_of(self.rt, path);
+                Opening::Missing
+            }
+            _ => Opening::Missing,
+        }
     }
 }
 
@@ -45,17 +62,18 @@ impl Files for SystemFiles<'_> {
         Some(FileSource::new(file))
     }
 
+    // Libraries are searched for in many folders, some of which are on no machine.
     fn open_library(&self, path: &[u8]) -> Opening<FileSource> {
         let Ok(path) = from_utf8(path) else {
             return Opening::Missing;
         };
+        if self.asked.lack_folder_of(path) {
+            return Opening::Missing;
+        }
         match open_regular(self.rt, path) {
             Ok(Some(file)) => Opening::Parts(FileSource::new(file)),
             Ok(None) => Opening::Missing,
-            Err(error) => match error.kind() {
-                io::ErrorKind::OutOfMemory => Opening::Whole,
-                _ => Opening::Missing,
-            },
+            Err(error) => self.unopened(path, error.kind()),
         }
     }
 
