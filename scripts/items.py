@@ -330,7 +330,7 @@ def entries(crate, modules):
 
 def entries_of(item, cited, impls):
     """The entries of an item: itself, the methods of a trait, and what the `impl` blocks say of a type."""
-    if item.kind == "const":
+    if item.kind in ("const", "static"):
         return [Entry(item.name, item, {}, constant=True)]
     if item.kind == "trait":
         cited = cited | item.cited
