@@ -1,7 +1,6 @@
-//! The texts of errors that no stored row shows, and of stopped runs.
+//! The texts of errors that no stored row shows.
 use elf::ParseError;
 use elf_linking::{BindingFault, Unreadable};
-use elfshow::runs::RunError;
 use std::fmt::Display;
 use std::io;
 use std::process::Abort;
@@ -93,30 +92,5 @@ fn a_version_that_cannot_be_read_has_a_text(rt: HostRuntime) {
             symbol: 3,
         },
         "object 2: version of symbol 3 cannot be read",
-    );
-}
-
-#[test]
-fn a_stopped_run_has_the_text_of_its_cause(rt: HostRuntime) {
-    assert_text(
-        &rt,
-        RunError::Open(ParseError::UnsupportedElfClass(9)),
-        "Unsupported ELF Class: 9",
-    );
-    assert_text(
-        &rt,
-        RunError::Fault {
-            done: 3,
-            error: ParseError::OutOfMemory,
-        },
-        "Out of memory",
-    );
-    assert_text(
-        &rt,
-        RunError::Write {
-            done: 3,
-            error: io::Error::from(io::ErrorKind::StorageFull),
-        },
-        "no storage space",
     );
 }

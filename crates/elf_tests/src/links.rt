@@ -1,10 +1,10 @@
 //! How much of a source is loaded for look-ups.
-use crate::files::HASHED;
 use crate::sizes::{IDENT, bytes_at};
-use crate::sources::{Meter, Metered};
 use elf::ElfStream;
 use elf::endian::AnyEndian;
 use elf_linking::links::load_links;
+use elf_test_parts::files::HASHED;
+use elf_test_parts::sources::{Meter, Metered};
 use std::alloc::{AllocError, Global};
 use std::test::Fail;
 

@@ -1,10 +1,10 @@
 //! Files that a user's own order opens, sources whose section headers are lost, and the caller that README shows.
-use crate::files::{HEADER_ALONE, TWO_SECTIONS, TWO_SECTIONS_BIG};
 use crate::refusals::refusal;
 use crate::sizes::{IDENT, bytes_at};
-use crate::sources::{Halting, is_of_source};
 use elf::endian::{AnyEndian, NativeEndian};
 use elf::{ElfBytes, ElfStream, MemSource, ParseError};
+use elf_test_parts::files::{HEADER_ALONE, TWO_SECTIONS, TWO_SECTIONS_BIG};
+use elf_test_parts::sources::{Halting, is_of_source};
 use elf_user_types::example::count_named;
 use elf_user_types::order::FileOrder;
 use std::alloc::{AllocError, Global};

@@ -1,14 +1,12 @@
 //! Values that are shown for a debugger.
-use crate::files::{HEADER_ALONE, TWO_SECTIONS};
 use elf::endian::{AnyEndian, BigEndian, LittleEndian};
 use elf::file::Class;
 use elf::parse::{ParsingIterator, ParsingTable};
 use elf::string_table::StringTable;
 use elf::{ElfBytes, ParseError};
+use elf_test_parts::files::{HEADER_ALONE, TWO_SECTIONS};
 use elf_user_types::order::FileOrder;
 use elf_user_types::triple::Triple;
-use elfshow::runs::{Call, RunError};
-use elfshow::show::RequestError;
 use std::fmt::Debug;
 use std::process::Abort;
 use std::test::Fail;
@@ -29,10 +27,6 @@ fn parts_are_shown(rt: HostRuntime) {
     assert_shown(&rt, Class::ELF32, "ELF32");
     assert_shown(&rt, StringTable::new(b"\0"), "StringTable { data: [0] }");
     assert_shown(&rt, ParseError::BadOffset(7), "BadOffset(7)");
-    assert_shown(&rt, Call::Sections, "Sections");
-    let refused = RunError::Open(ParseError::IntegerOverflow);
-    assert_shown(&rt, refused, "Open(IntegerOverflow)");
-    assert_shown(&rt, RequestError::Usage, "Usage");
 }
 
 // The fields of tables are private. A table stores its byte order as a bool.

@@ -1,10 +1,4 @@
 //! A stream over sources that give little, that fail, and that are shorter than they say.
-use crate::files::{
-    COMPRESSED, COMPRESSED_WIDE, HASHED, HASHED_OTHERWISE, ONE_DYNAMIC_ENTRY, ONE_SEGMENT,
-    TWO_SECTIONS, VERSIONED, VERSIONS_BY_NAME,
-};
-use crate::memory::all_memory;
-use crate::sources::{Halting, Meter, Metered, Short, is_of_source};
 use elf::dynamic::{Dyn, DynamicTable};
 use elf::endian::AnyEndian;
 use elf::gnu_symver::{SymbolDefinition, SymbolRequirement, SymbolVersionTable};
@@ -16,23 +10,32 @@ use elf::segment::ProgramHeader;
 use elf::string_table::StringTable;
 use elf::symbol::{Symbol, SymbolTable};
 use elf::{ElfBytes, ElfStream, MemSource, ParseError};
+use elf_test_parts::files::{
+    COMPRESSED, COMPRESSED_WIDE, HASHED, HASHED_OTHERWISE, ONE_DYNAMIC_ENTRY, ONE_SEGMENT,
+    TWO_SECTIONS, VERSIONED, VERSIONS_BY_NAME,
+};
+use elf_test_parts::memory::all_memory;
+use elf_test_parts::sources::{Halting, Meter, Metered, Short, is_of_source};
 use std::alloc::{AllocError, Global};
 use std::cell::Cell;
 use std::io;
 use std::process::Abort;
 use std::test::Fail;
 
-const FILES: [&[u8]; 9] = [
-    &TWO_SECTIONS,
-    &ONE_SEGMENT,
-    &COMPRESSED,
-    &COMPRESSED_WIDE,
-    &HASHED,
-    &HASHED_OTHERWISE,
-    &ONE_DYNAMIC_ENTRY,
-    &VERSIONED,
-    &VERSIONS_BY_NAME,
-];
+/// The small files.
+fn files() -> [&'static [u8]; 9] {
+    [
+        &TWO_SECTIONS,
+        &ONE_SEGMENT,
+        &COMPRESSED,
+        &COMPRESSED_WIDE,
+        &HASHED,
+        &HASHED_OTHERWISE,
+        &ONE_DYNAMIC_ENTRY,
+        &VERSIONED,
+        &VERSIONS_BY_NAME,
+    ]
+}
 
 /// How many calls over each of the files read their first range, where nothing is cached.
 const READING: [usize; 9] = [18, 15, 15, 15, 17, 17, 17, 18, 17];
@@ -512,7 +515,7 @@ fn calls_of_source(
 
 #[test]
 fn a_source_may_fail_at_each_call(rt: HostRuntime) -> Result<(), Fail> {
-    for bytes in FILES {
+    for bytes in files() {
         for width in 1..=3 {
             let calls = calls_of_source(&rt, bytes, width)?;
             assert!(rt; calls > 20 && calls < 1000, "{calls} calls");
@@ -679,7 +682,7 @@ fn calls_that_read(rt: &(impl Abort + AllocGlobal), bytes: &[u8]) -> Result<usiz
 fn the_first_call_may_fail(rt: HostRuntime) -> Result<(), ParseError> {
     let faults = faults_of_first_call(&rt, &TWO_SECTIONS, Request::Choice(Choice::Named))?;
     assert!(rt; faults > 4, "{faults} faults");
-    for (bytes, reading) in FILES.iter().zip(READING) {
+    for (bytes, reading) in files().iter().zip(READING) {
         assert!(rt; calls_that_read(&rt, bytes)? >= reading);
     }
     Ok(())
@@ -714,7 +717,7 @@ fn assert_answered(rt: &(impl Abort + AllocGlobal), bytes: &[u8]) -> Result<usiz
 #[test]
 fn one_allocation_may_be_refused(rt: HostRuntime) -> Result<(), Fail> {
     let mut refused = 0usize;
-    for bytes in FILES {
+    for bytes in files() {
         refused = refused.saturating_add(assert_answered(&rt, bytes)?);
     }
     assert!(rt; refused <= 1, "{refused} calls were refused");

@@ -1,9 +1,9 @@
 //! Streams over large files, with many cached ranges, and over sources that end early.
-use crate::files::TWO_SECTIONS;
-use crate::sources::{Meter, Metered, Short};
 use elf::endian::AnyEndian;
 use elf::section::SectionHeader;
 use elf::{ElfBytes, ElfStream, MemSource, ParseError, StreamSource};
+use elf_test_parts::files::TWO_SECTIONS;
+use elf_test_parts::sources::{Meter, Metered, Short};
 use std::alloc::{AllocError, Global};
 use std::io;
 use std::test::Fail;

@@ -1,6 +1,6 @@
 //! Texts of values when allocations fail, and that no value has two names.
-use crate::memory::all_memory;
 use elf::to_str;
+use elf_test_parts::memory::all_memory;
 use std::alloc::{AllocError, Global};
 use std::process::Abort;
 

@@ -1,8 +1,8 @@
 //! A run over a stream whose source fails once a call is done.
-use crate::files::TWO_SECTIONS;
-use crate::sources::{Halting, is_of_source};
 use elf::endian::AnyEndian;
 use elf::{ElfStream, ParseError};
+use elf_test_parts::files::TWO_SECTIONS;
+use elf_test_parts::sources::{Halting, is_of_source};
 use elfshow::runs::{Call, RunError, run_stream};
 use std::alloc::Global;
 use std::cell::Cell;

@@ -1,11 +1,11 @@
 //! What the program does with the words of its command line.
 ghost use Rattle.std.specs.Prelude.{None, false};
 
-use crate::files::HEADER_ALONE;
-use crate::memory::all_memory;
 use crate::texts::{HEADER_LINE, USAGE_LINE};
 use crate::writers::{Counting, Faulty, Line, Narrow};
 use elf::{MemSource, ParseError};
+use elf_test_parts::files::HEADER_ALONE;
+use elf_test_parts::memory::all_memory;
 use elfshow::failure::{Failure, report};
 use elfshow::file_system::{FileSystem, MemFile};
 use elfshow::runs::{Call, RunError};

@@ -2,7 +2,7 @@
 ghost use Rattle.std.specs.Prelude.{◌≡◌, ◌≤◌, None, Some, length, true};
 ghost use Rattle.elf_reading.specs.Source.{HasCause};
 
-use elf::StreamSource;
+use elf_reading::source::StreamSource;
 use std::cell::Cell;
 use std::io;
 use std::io::ErrorKind;
@@ -18,14 +18,14 @@ fn give(bytes: &[u8], at: u64, buf: &mut [u8]) -> usize
 }
 
 /// Whether an error is the one that a source here fails with.
-pub(crate) fn is_of_source(error: &io::Error) -> bool {
+pub fn is_of_source(error: &io::Error) -> bool {
     error.kind() == ErrorKind::TimedOut
 }
 
 /// Gives `width` bytes a read, or one if that is 0, and fails once, after `calls_before` calls. The owner of that cell
 /// may change the number.
 #[derive(Drop)]
-pub(crate) struct Halting<'a> {
+pub struct Halting<'a> {
     bytes: &'a [u8],
     at: u64,
     width: usize,
@@ -34,7 +34,7 @@ pub(crate) struct Halting<'a> {
 }
 
 impl<'a> Halting<'a> {
-    pub(crate) fn new(bytes: &'a [u8], width: usize, calls_before: &'a Cell<u64>) -> Halting<'a> {
+    pub fn new(bytes: &'a [u8], width: usize, calls_before: &'a Cell<u64>) -> Halting<'a> {
         Halting {
             bytes,
             at: 0,
@@ -98,20 +98,20 @@ impl<'a> StreamSource for Halting<'a> {
 
 /// Counts its calls and the bytes that it gave.
 #[derive(Drop)]
-pub(crate) struct Metered<'a> {
+pub struct Metered<'a> {
     bytes: &'a [u8],
     at: u64,
     meter: &'a Meter,
 }
 
 #[derive(Drop)]
-pub(crate) struct Meter {
+pub struct Meter {
     calls: Cell<u64>,
     bytes: Cell<u64>,
 }
 
 impl Meter {
-    pub(crate) fn new() -> Meter {
+    pub fn new() -> Meter {
         Meter {
             calls: Cell::new(0),
             bytes: Cell::new(0),
@@ -119,7 +119,7 @@ impl Meter {
     }
 
     /// How many calls there were, and how many bytes were given, since `taken` was called last.
-    pub(crate) fn taken(&self) -> (u64, u64) {
+    pub fn taken(&self) -> (u64, u64) {
         (self.calls.replace(0), self.bytes.replace(0))
     }
 
@@ -131,7 +131,7 @@ impl Meter {
 }
 
 impl<'a> Metered<'a> {
-    pub(crate) fn new(bytes: &'a [u8], meter: &'a Meter) -> Metered<'a> {
+    pub fn new(bytes: &'a [u8], meter: &'a Meter) -> Metered<'a> {
         Metered {
             bytes,
             at: 0,
@@ -170,14 +170,14 @@ impl<'a> StreamSource for Metered<'a> {
 
 /// Says that it is longer than its reads give.
 #[derive(Drop)]
-pub(crate) struct Short<'a> {
+pub struct Short<'a> {
     bytes: &'a [u8],
     at: u64,
     len: u64,
 }
 
 impl<'a> Short<'a> {
-    pub(crate) fn new(bytes: &'a [u8], len: u64) -> Short<'a> {
+    pub fn new(bytes: &'a [u8], len: u64) -> Short<'a> {
         Short { bytes, at: 0, len }
     }
 }

@@ -1,6 +1,6 @@
 //! Runs of a user's own order and of many calls.
-use crate::files::{HEADER_ALONE, TWO_SECTIONS_BIG};
 use crate::texts::{HEADER_LINE, TWO_SECTION_LINES};
+use elf_test_parts::files::{HEADER_ALONE, TWO_SECTIONS_BIG};
 use elf_user_types::order::FileOrder;
 use elfshow::file_system::MemFile;
 use elfshow::runs::{Call, run_bytes};

@@ -1,9 +1,9 @@
 //! Which call of the file system each mode makes, and the messages of its errors.
 ghost use Rattle.std.specs.Prelude.{None, false};
 
-use crate::files::HEADER_ALONE;
 use crate::texts::HEADER_LINE;
 use elf::MemSource;
+use elf_test_parts::files::HEADER_ALONE;
 use elfshow::file_system::FileSystem;
 use elfshow::show::show;
 use std::alloc::{AllocError, Global};

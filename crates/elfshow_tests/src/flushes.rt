@@ -1,8 +1,8 @@
 //! How often the writer of a run is flushed, and that nothing is written after a failed write.
-use crate::files::VERSIONED;
 use crate::writers::Watched;
 use elf::MemSource;
 use elf::endian::AnyEndian;
+use elf_test_parts::files::VERSIONED;
 use elfshow::runs::{Call, RunError, run_bytes};
 use elfshow::show::run_source;
 use std::alloc::{AllocError, Global};

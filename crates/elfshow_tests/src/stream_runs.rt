@@ -1,9 +1,9 @@
 //! Runs over streams whose source fails, and to writers that fail.
-use crate::files::{HASHED, TWO_SECTIONS};
-use crate::sources::{Halting, is_of_source};
 use crate::writers::{Faulty, Narrow};
 use elf::endian::AnyEndian;
 use elf::{ElfStream, MemSource, ParseError};
+use elf_test_parts::files::{HASHED, TWO_SECTIONS};
+use elf_test_parts::sources::{Halting, is_of_source};
 use elfshow::runs::{Call, RunError, run_bytes, run_stream};
 use std::alloc::Global;
 use std::cell::Cell;

@@ -1,8 +1,8 @@
 //! Runs whose writer fails.
-use crate::files::HEADER_ALONE;
 use crate::texts::HEADER_LINE;
 use crate::writers::{Faulty, Narrow};
 use elf::endian::AnyEndian;
+use elf_test_parts::files::HEADER_ALONE;
 use elfshow::runs::{Call, RunError, run_bytes};
 use std::alloc::{AllocError, Global};
 use std::io::{BufWriter, ErrorKind, Write};

@@ -1,8 +1,8 @@
 //! Runs in little memory. `rt try --test` has an allocator of its own, which does not run out: there these tests fail.
-use crate::files::HASHED;
-use crate::memory::all_memory_but;
 use crate::writers::Line;
 use elf::{MemSource, ParseError};
+use elf_test_parts::files::HASHED;
+use elf_test_parts::memory::all_memory_but;
 use elfshow::file_system::MemFile;
 use elfshow::runs::{Call, RunError};
 use elfshow::show::{run_both, run_source, show};
