@@ -1,6 +1,6 @@
 -- What is said of the notes of a file.
 use Rattle.std.specs.Prelude.{ℕ, ◌+◌, ◌==◌, nat_lt, if◌then◌else◌, List, [], ◌∷◌, ◌++◌, length, Option, Some, None}
-use Rattle.std.specs.Prelude.{Result, codes}
+use Rattle.std.specs.Prelude.{Result, Ok, Err, codes}
 use Rattle.std.specs.List.{flat_map}
 use Rattle.elf_abi.specs.Values.{pt_note, sht_note}
 use Rattle.elf_check.specs.Notes.{note_align, notes_end}
@@ -10,7 +10,7 @@ use Rattle.elf_records.specs.Number.{ok_map}
 use Rattle.elf_records.specs.declared.segment.ProgramHeader.{ProgramHeader}
 use Rattle.elf.specs.Answers.{segment_data}
 use Rattle.elf.specs.ObjectFile.{ObjectFile}
-use Rattle.nugwier_taking.specs.Headings.{heading_members, known_names}
+use Rattle.nugwier_taking.specs.Headings.{counted_members, known_names, row_count}
 use Rattle.nugwier_report.specs.Labels.{label_name}
 use Rattle.nugwier_taking.specs.Read.{given_said}
 use Rattle.nugwier_taking.specs.TypedSections.{TypedSection, left_after, sections_of, within}
@@ -54,18 +54,25 @@ list_said part list = notes_said list.file part list.notes ++ said_if (end_said 
 
 -- ---- what is said
 
+-- how many notes there are, if they are listed
+abbrev pub note_count : Result NoteList Fault → Option ℕ
+note_count (Ok list) = Some (length list.notes)
+note_count (Err fault) = None
+
 -- a heading, and the notes of section k, or why they are not listed
 abbrev pub section_notes_said : ℕ → List ℕ → Result NoteList Fault → List Said
 section_notes_said k name notes =
-    states SectionNotesHeading (heading_members k name) ∷ given_said (Section k) (list_said (Section k)) notes
+    states SectionNotesHeading (counted_members k name (note_count notes))
+    ∷ given_said (Section k) (list_said (Section k)) notes
 
-abbrev pub segment_members : ℕ → Members
-segment_members k = (codes "segment", number k) ∷ []
+abbrev pub segment_members : ℕ → Option ℕ → Members
+segment_members k count = (codes "segment", number k) ∷ (codes "count", row_count count) ∷ []
 
 -- the same of segment k
 abbrev pub segment_notes_said : ℕ → Result NoteList Fault → List Said
 segment_notes_said k notes =
-    states SegmentNotesHeading (segment_members k) ∷ given_said (Segment k) (list_said (Segment k)) notes
+    states SegmentNotesHeading (segment_members k (note_count notes))
+    ∷ given_said (Segment k) (list_said (Segment k)) notes
 
 -- of a section of a file for this machine that has notes
 abbrev pub notes_of_section : ℕ → ObjectFile → TypedSection → List Said

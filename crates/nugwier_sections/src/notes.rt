@@ -1,8 +1,9 @@
 //! The notes of a file.
-ghost use Rattle.std.specs.Prelude.{◌≡◌, ◌++◌, IfOk, OnOk};
+ghost use Rattle.std.specs.Prelude.{◌≡◌, ◌++◌, IfOk, OnOk, length};
 ghost use Rattle.std.specs.List.{flat_map};
+ghost use Rattle.elf_parts.specs.Note.{notes_left};
 ghost use Rattle.elf_records.specs.Number.{ok_map};
-ghost use Rattle.nugwier_sections.specs.Notes.{after_segment, end_said, list_said, note_file};
+ghost use Rattle.nugwier_sections.specs.Notes.{after_segment, end_said, list_said, note_count, note_file};
 ghost use Rattle.nugwier_sections.specs.Notes.{note_list, said_of_note_sections, said_of_note_segments, said_of_notes};
 ghost use Rattle.nugwier_sections.specs.Notes.{segment_members, segment_notes_in};
 ghost use Rattle.nugwier_taking.specs.Read.{given_said};
@@ -12,7 +13,7 @@ ghost use Rattle.nugwier_writing.specs.Members.{members_said};
 ghost use Rattle.nugwier_report.specs.Said.{said_if, saying};
 
 use elf::abi;
-use elf::endian::EndianParse;
+use elf::endian::{AnyEndian, EndianParse};
 use elf::file::Class;
 use elf::headers::Headers;
 use elf::note::NoteIterator;
@@ -20,12 +21,13 @@ use elf::reader::Reader;
 use elf::segment::ProgramHeader;
 use elf_check::faults::SectionFault;
 use elf_check::notes::{first_no_note, note_align};
+use elf_parts::laws::notes::few_notes_are_left;
 use nugwier_notes::notes;
 use nugwier_notes::properties::NoteFile;
 use nugwier_report::names::label_name;
 use nugwier_report::problem::{Fault, Part, Stop};
 use nugwier_report::report::Report;
-use nugwier_taking::headings::{heading_members, known_names};
+use nugwier_taking::headings::{counted_members, known_names, row_count};
 use nugwier_taking::listed::ListedFile;
 use nugwier_taking::parts::TakenPart;
 use nugwier_taking::taking;
@@ -57,11 +59,13 @@ impl TakenPart for NotePart<'_> {
     fn say<W: Write, V: Write>(self, report: &mut Report<'_, W, V>) -> Result<(), Stop> {
         match self {
             NotePart::Section(number, name, notes) => {
-                report.state(Kind::SectionNotesHeading, &heading_members(number, name))?;
+                let members = counted_members(number, name, note_count(&notes));
+                report.state(Kind::SectionNotesHeading, &members)?;
                 say_given(Part::Section(number), notes, report)
             }
             NotePart::Segment(number, notes) => {
-                report.state(Kind::SegmentNotesHeading, &segment_members(number))?;
+                let members = segment_members(number, note_count(&notes));
+                report.state(Kind::SegmentNotesHeading, &members)?;
                 say_given(Part::Segment(number), notes, report)
             }
         }
@@ -146,10 +150,13 @@ fn add_segment<'f, E: EndianParse, R: ListedFile<E>>(
     Ok(after)
 }
 
-fn segment_members(number: u64) -> [Member<'static>; 1]
-    ensures { members_said result ≡ segment_members number }
+fn segment_members(number: u64, count: Option<u64>) -> [Member<'static>; 2]
+    ensures { members_said result ≡ segment_members number count }
 {
-    [("segment", Value::Number(number))]
+    [
+        ("segment", Value::Number(number)),
+        ("count", row_count(count)),
+    ]
 }
 
 /// Returns the file, as the descriptors of its notes and build attributes depend on it.
@@ -178,6 +185,32 @@ fn notes_of<'f>(
     }
 }
 
+// How many notes there are, if they are listed.
+fn note_count(notes: &Result<NoteBytes<'_>, Fault<'static>>) -> Option<u64>
+    ensures { result ≡ note_count (ok_map notes_view notes.now) }
+{
+    match notes {
+        Ok(notes) => Some(count_notes(*notes)),
+        Err(_) => None,
+    }
+}
+
+fn count_notes(notes: NoteBytes<'_>) -> u64
+    ensures { result ≡ length (notes_view notes.entry).notes }
+{
+    let list = list_of(notes);
+    few_notes_are_left(&list);
+    list.count() as u64
+}
+
+fn list_of(notes: NoteBytes<'_>) -> NoteIterator<'_, AnyEndian>
+    ensures { notes_left result ≡ (notes_view notes.entry).notes }
+{
+    let NoteBytes { file, align, bytes } = notes;
+    let align = align as usize;
+    NoteIterator::new(file.order(), Class::ELF64, note_align(align), bytes)
+}
+
 // Says notes, or why they are not listed.
 fn say_given<W: Write, V: Write>(
     part: Part,
@@ -203,8 +236,7 @@ fn say_list<W: Write, V: Write>(
 {
     let NoteBytes { file, align, bytes } = notes;
     let align = align as usize;
-    let list = NoteIterator::new(file.order(), Class::ELF64, note_align(align), bytes);
-    notes::say_notes(file, part, list, report)?;
+    notes::say_notes(file, part, list_of(notes), report)?;
     say_end(part, end_of(file, align, bytes), report)
 }
 

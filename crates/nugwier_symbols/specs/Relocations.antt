@@ -1,6 +1,6 @@
 -- What is said of the relocations of a file.
 use Rattle.std.specs.Prelude.{ℕ, ◌==◌, ◌||◌, Bool, true, if◌then◌else◌, List, [], ◌∷◌, ◌++◌, Option, Some, None, Result, Ok}
-use Rattle.std.specs.Prelude.{Err, codes, map}
+use Rattle.std.specs.Prelude.{Err, codes, length, map}
 use Rattle.std.specs.List.{flat_map}
 use Rattle.std.specs.Option.{option_map}
 use Rattle.elf_abi.specs.Values.{sht_dynsym, sht_rel, sht_rela, sht_symtab}
@@ -21,7 +21,7 @@ use Rattle.elf_records.specs.declared.relocation.Rela.{Rela}
 use Rattle.elf_records.specs.declared.section.SectionHeader.{SectionHeader}
 use Rattle.elf.specs.Answers.{section_data_as_relas, section_data_as_rels, symbols_of}
 use Rattle.elf.specs.ObjectFile.{ObjectFile, err_map, table_of}
-use Rattle.nugwier_taking.specs.Headings.{heading_members, known_names}
+use Rattle.nugwier_taking.specs.Headings.{counted_members, known_names, row_count}
 use Rattle.nugwier_report.specs.Labels.{label_name}
 use Rattle.nugwier_taking.specs.Linked.{linked_versions, symbols_by}
 use Rattle.nugwier_taking.specs.Read.{fault_said, given_said, if_read}
@@ -51,6 +51,12 @@ pub data Records : Type 0 where
 abbrev pub relative_in : Table → Records
 relative_in words = relative (relative_addresses words.class (table_items relr_reads words))
 
+-- how many there are, if that is told before them: of packed relative ones it is not
+abbrev pub count_of : Records → Option ℕ
+count_of (rels records) = Some (length records)
+count_of (relas records) = Some (length records)
+count_of (relative addresses) = None
+
 -- their place: section k of this name, or in a table that a dynamic entry gives
 pub data Place : Type 0 where
   in_section : ℕ → List ℕ → Place
@@ -60,9 +66,10 @@ pub data Place : Type 0 where
 abbrev pub Symbols : Type 0
 Symbols = (Table × List ℕ) × Bool
 
--- relocations at a place, and the symbols that they use, if there are any
+-- relocations at a place, how many the heading tells, and the symbols that they use, if there are any
 pub record PlacedRelocations : Type 0 where
   pub place : Place
+  pub count : Option ℕ
   pub symbols : Result (Option Symbols) Fault
   pub records : Result Records Fault
 
@@ -90,9 +97,15 @@ records_of file s =
 abbrev pub records_if : ObjectFile → SectionHeader → Result (List ℕ) Fault → Result Records Fault
 records_if file s bytes = bytes >>= λ listed. err_map Read (records_of file s)
 
+-- how many there are, if they can be read
+abbrev pub count_if : Result Records Fault → Option ℕ
+count_if (Ok records) = count_of records
+count_if (Err fault) = None
+
 abbrev pub section_relocations : ObjectFile → TypedSection → PlacedRelocations
 section_relocations file s = record {
   place = in_section s.number (label_name (known_names file) s.header);
+  count = count_if (records_if file s.header s.bytes);
   symbols = err_map Read (section_symbols file s.header.sh_link);
   records = records_if file s.header s.bytes;
 }
@@ -119,14 +132,26 @@ table_records file entries table.Plt = ok_map (option_map plt_records) (plt_relo
 abbrev pub linked_table : ObjectFile → List Dyn → Result (Option Symbols) Fault
 linked_table file entries = err_map Linked (ok_map (option_map (λ symbols. (symbols, true))) (symbols_by file entries))
 
-abbrev pub records_in_table : RelocationTable → Result (Option Symbols) Fault → Result (Option Records) DynamicError →
-    List PlacedRelocations
-records_in_table t symbols (Ok (Some records)) = record { place = in_table t; symbols = symbols; records = Ok records } ∷ []
-records_in_table t symbols (Ok None) = []
-records_in_table t symbols (Err e) = record { place = in_table t; symbols = symbols; records = Err (Linked e) } ∷ []
+-- how many there are, if they can be read
+abbrev pub table_count : Result (Option Records) DynamicError → Option ℕ
+table_count (Ok (Some records)) = count_of records
+table_count _ = None
+
+abbrev pub placed_in : RelocationTable → Option ℕ → Result (Option Symbols) Fault → Result Records Fault →
+    PlacedRelocations
+placed_in t count symbols records =
+    record { place = in_table t; count = count; symbols = symbols; records = records }
+
+abbrev pub records_in_table : RelocationTable → Option ℕ → Result (Option Symbols) Fault →
+    Result (Option Records) DynamicError → List PlacedRelocations
+records_in_table t count symbols (Ok (Some records)) = placed_in t count symbols (Ok records) ∷ []
+records_in_table t count symbols (Ok None) = []
+records_in_table t count symbols (Err e) = placed_in t count symbols (Err (Linked e)) ∷ []
 
 abbrev pub table_relocations : ObjectFile → List Dyn → RelocationTable → List PlacedRelocations
-table_relocations file entries t = records_in_table t (linked_table file entries) (table_records file entries t)
+table_relocations file entries t =
+    let found = table_records file entries t in
+    records_in_table t (table_count found) (linked_table file entries) found
 
 abbrev pub tables_by : ObjectFile → Result (Option Table) DynamicError → Result (List PlacedRelocations) DynamicError
 tables_by file (Ok (Some dynamic)) = Ok (flat_map (table_relocations file (entries_in dynamic))
@@ -156,12 +181,13 @@ abbrev pub part_of : Place → Part
 part_of (in_section k name) = Section k
 part_of (in_table t) = Relocations t
 
-abbrev pub table_members : RelocationTable → Members
-table_members t = (codes "table", text (Some (tag_name t))) ∷ []
+abbrev pub table_members : RelocationTable → Option ℕ → Members
+table_members t count = (codes "table", text (Some (tag_name t))) ∷ (codes "count", row_count count) ∷ []
 
-abbrev pub heading_of : Place → Said
-heading_of (in_section k name) = states RelocationsHeading (heading_members k name)
-heading_of (in_table t) = states RelocationTableHeading (table_members t)
+-- above this number of relocations
+abbrev pub heading_of : Place → Option ℕ → Said
+heading_of (in_section k name) count = states RelocationsHeading (counted_members k name count)
+heading_of (in_table t) count = states RelocationTableHeading (table_members t count)
 
 abbrev pub used_by : Surroundings → Symbols → Used
 used_by around ((table, strings), is_dynamic) = record {
@@ -191,7 +217,7 @@ symbols_unread part symbols = fault_said (record { part = part; item = SymbolsIt
 abbrev pub placed_said : Surroundings → PlacedRelocations → List Said
 placed_said around placed =
     let part = part_of placed.place in
-    heading_of placed.place
+    heading_of placed.place placed.count
     ∷ symbols_unread part placed.symbols
     ++ records_said around.machine part (option_map (used_by around) (if_read placed.symbols)) placed.records
 

@@ -1,19 +1,19 @@
 //! The relocations of a file.
-ghost use Rattle.std.specs.Prelude.{[], ◌≡◌, ◌∷◌, ◌++◌, IfOk, OnOk, map};
+ghost use Rattle.std.specs.Prelude.{[], ◌≡◌, ◌∷◌, ◌++◌, IfOk, OnOk, length, map};
 ghost use Rattle.std.specs.List.{flat_map};
 ghost use Rattle.std.specs.Option.{option_to_list, option_map};
 ghost use Rattle.elf.specs.ObjectFile.{err_map};
 ghost use Rattle.elf_dynamic.specs.dynamic_view.Entries.{entries_in};
 ghost use Rattle.elf_records.specs.Number.{ok_map};
-ghost use Rattle.elf_records.specs.Table.{table_view};
+ghost use Rattle.elf_records.specs.Table.{items_left, table_view};
 ghost use Rattle.nugwier_taking.specs.Headings.{known_names};
 ghost use Rattle.nugwier_taking.specs.Read.{if_read};
-ghost use Rattle.nugwier_symbols.specs.Relocations.{each_said, in_table, linked_table, machine_of};
-ghost use Rattle.nugwier_symbols.specs.Relocations.{placed_said, records_of, records_said, relative_in};
-ghost use Rattle.nugwier_symbols.specs.Relocations.{relocations_of, said_of_relocations};
+ghost use Rattle.nugwier_symbols.specs.Relocations.{count_if, count_of, each_said, linked_table, machine_of};
+ghost use Rattle.nugwier_symbols.specs.Relocations.{placed_in, placed_said, records_if, records_in_table, records_of};
+ghost use Rattle.nugwier_symbols.specs.Relocations.{records_said, relative_in, relocations_of, said_of_relocations};
 ghost use Rattle.nugwier_symbols.specs.Relocations.{section_relocations, sections_relocations};
 ghost use Rattle.nugwier_symbols.specs.Relocations.{section_symbols, symbols_if, symbols_unread, table_members};
-ghost use Rattle.nugwier_symbols.specs.Relocations.{table_records, table_relocations, used_by};
+ghost use Rattle.nugwier_symbols.specs.Relocations.{table_count, table_records, table_relocations, used_by};
 ghost use Rattle.nugwier_taking.specs.Whole.{file_of};
 ghost use Rattle.nugwier_symbols.specs.inner.Relocations.{around_view, part_view, place_heading, place_part};
 ghost use Rattle.nugwier_symbols.specs.inner.Relocations.{records_view, symbols_view, tables_said};
@@ -30,6 +30,8 @@ use elf::endian::EndianParse;
 use elf::file::FileHeader;
 use elf::gnu_symver::SymbolVersions;
 use elf::headers::Headers;
+use elf::laws::tables::few_records_are_left;
+use elf::parse::{ParseAt, ParsingIterator};
 use elf::reader::Reader;
 use elf::relocation::{RelIterator, RelaIterator};
 use elf::section::SectionHeader;
@@ -44,7 +46,7 @@ use nugwier_report::names::{Labels, label_name};
 use nugwier_report::problem::{Fault, Item, Part, RelocationTable, Stop};
 use nugwier_report::report::Report;
 use nugwier_report::rows::say_records;
-use nugwier_taking::headings::{heading_members, known_names};
+use nugwier_taking::headings::{counted_members, known_names, row_count};
 use nugwier_taking::linked::FoundVersions;
 use nugwier_taking::listed::ListedFile;
 use nugwier_taking::taking::NotTaken;
@@ -82,25 +84,34 @@ impl RelocationPlace<'_> {
         }
     }
 
-    // Says the heading.
-    fn say<W: Write, V: Write>(self, report: &mut Report<'_, W, V>) -> Result<(), Stop>
-        ensures { OnOk result (report.new ≡ saying report.old (place_heading self.entry ∷ [])) }
+    // Says the heading, above this number of relocations.
+    fn say<W: Write, V: Write>(
+        self,
+        count: Option<u64>,
+        report: &mut Report<'_, W, V>,
+    ) -> Result<(), Stop>
+        ensures { OnOk result (report.new ≡ saying report.old (place_heading self.entry count ∷ [])) }
     {
         match self {
-            RelocationPlace::Section(number, name) => {
-                report.state(Kind::RelocationsHeading, &heading_members(number, name))
-            }
-            RelocationPlace::Table(table) => {
-                report.state(Kind::RelocationTableHeading, &table_members(table))
-            }
+            RelocationPlace::Section(number, name) => report.state(
+                Kind::RelocationsHeading,
+                &counted_members(number, name, count),
+            ),
+            RelocationPlace::Table(table) => report.state(
+                Kind::RelocationTableHeading,
+                &table_members(table, count),
+            ),
         }
     }
 }
 
-fn table_members(table: RelocationTable) -> [Member<'static>; 1]
-    ensures { members_said result ≡ table_members table }
+fn table_members(table: RelocationTable, count: Option<u64>) -> [Member<'static>; 2]
+    ensures { members_said result ≡ table_members table count }
 {
-    [("table", Value::Text(Some(table.name().as_bytes())))]
+    [
+        ("table", Value::Text(Some(table.name().as_bytes()))),
+        ("count", row_count(count)),
+    ]
 }
 
 // A table of symbols, with their strings, and whether they are those for dynamic linking, which may have versions.
@@ -114,10 +125,11 @@ struct TakenSymbols<'f, E: EndianParse> {
 // The symbols that relocations use, if there are any.
 type UsedSymbols<'f, E> = Result<Option<TakenSymbols<'f, E>>, Fault<'f>>;
 
-/// Relocations, with their place, and the symbols that they use, if there are any.
+/// Relocations, with their place, how many they are, and the symbols that they use, if there are any.
 #[derive(Drop)]
 pub struct RelocationPart<'f, E: EndianParse> {
     place: RelocationPlace<'f>,
+    count: Option<u64>,
     symbols: UsedSymbols<'f, E>,
     records: Result<TakenRecords<'f, E>, Fault<'f>>,
 }
@@ -255,10 +267,11 @@ fn say_part<E: EndianParse, T: SymbolVersions<E>, W: Write, V: Write>(
 {
     let RelocationPart {
         place,
+        count,
         symbols,
         records,
     } = part;
-    place.say(report)?;
+    place.say(count, report)?;
     let part = place.part();
     let symbols = known_symbols(part, symbols, report)?;
     let symbols = used_by(around, symbols);
@@ -339,28 +352,61 @@ fn take_table<'f, E: EndianParse, R: ListedFile<E>>(
     ensures { IfOk result (λ part. option_to_list (option_map part_view part)
         ≡ table_relocations (file_of (R.file file.now) (R.bytes file.now)) (entries_in (table_view entries.now)) table) }
 {
+    let count = table_count(file, entries, table)?;
     let symbols = linked_symbols(file, entries)?;
+    let found = table_records(file, entries, table)?;
+    Ok(part_if(table, count, symbols, found))
+}
+
+// How many relocations a table has, if that is told. To count them uses them up.
+fn table_count<E: EndianParse, R: ListedFile<E>>(
+    file: &R,
+    entries: &DynamicTable<'_, E>,
+    table: RelocationTable,
+) -> Result<Option<u64>, NotTaken>
+    ensures { IfOk result (λ count. count ≡ table_count
+        (table_records (file_of (R.file file.now) (R.bytes file.now)) (entries_in (table_view entries.now)) table)) }
+{
     match table_records(file, entries, table)? {
-        Ok(Some(records)) => Ok(Some(part_of_table(table, symbols, Ok(records)))),
+        Ok(Some(records)) => Ok(count_of(records)),
         Ok(None) => Ok(None),
-        Err(error) => Ok(Some(part_of_table(table, symbols, Err(Fault::Linked(error))))),
+        Err(_) => Ok(None),
+    }
+}
+
+// The relocations of a table, if there is one.
+fn part_if<'f, E: EndianParse>(
+    table: RelocationTable,
+    count: Option<u64>,
+    symbols: UsedSymbols<'f, E>,
+    found: Result<Option<TakenRecords<'f, E>>, DynamicError>,
+) -> Option<RelocationPart<'f, E>>
+    ensures { option_to_list (option_map part_view result) ≡ records_in_table table count
+        (ok_map (option_map symbols_view) symbols.entry) (ok_map (option_map records_view) found.entry) }
+{
+    match found {
+        Ok(Some(records)) => Some(part_of_table(table, count, symbols, Ok(records))),
+        Ok(None) => None,
+        Err(error) => {
+            let records = Err(Fault::Linked(error));
+            Some(part_of_table(table, count, symbols, records))
+        }
     }
 }
 
 fn part_of_table<'f, E: EndianParse>(
     table: RelocationTable,
+    count: Option<u64>,
     symbols: UsedSymbols<'f, E>,
     records: Result<TakenRecords<'f, E>, Fault<'f>>,
 ) -> RelocationPart<'f, E>
-    ensures { part_view result ≡ record {
-      place = in_table table;
-      symbols = ok_map (option_map symbols_view) symbols.entry;
-      records = ok_map records_view records.entry;
-    } }
+    ensures { part_view result ≡ placed_in table count (ok_map (option_map symbols_view) symbols.entry)
+        (ok_map records_view records.entry) }
 {
     let place = RelocationPlace::Table(table);
     RelocationPart {
         place,
+        count,
         symbols,
         records,
     }
@@ -466,15 +512,48 @@ fn take_part<'f, E: EndianParse, R: ListedFile<E>>(
         bytes,
     } = section;
     let symbols = used_symbols(file, header.sh_link)?;
-    let records = match bytes {
-        Ok(_) => take_records(file, &header)?,
-        Err(fault) => Err(fault),
-    };
+    let (count, records) = counted_records(file, &header, bytes)?;
     Ok(RelocationPart {
         place: RelocationPlace::Section(number, label_name(names, &header)),
+        count,
         symbols,
         records,
     })
+}
+
+// How many relocations a section has, if that is told, and the relocations, if its bytes are listed.
+fn counted_records<'f, E: EndianParse, R: ListedFile<E>>(
+    file: &'f R,
+    section: &SectionHeader,
+    bytes: Result<&[u8], Fault<'static>>,
+) -> Result<(Option<u64>, Result<TakenRecords<'f, E>, Fault<'f>>), NotTaken>
+    ensures count { IfOk result (λ found. found.0 ≡ count_if (records_if
+        (file_of (R.file file.now) (R.bytes file.now)) section.now (ok_map (λ bytes. bytes.now) bytes.entry))) }
+    ensures records { IfOk result (λ found. ok_map records_view found.1 ≡ records_if
+        (file_of (R.file file.now) (R.bytes file.now)) section.now (ok_map (λ bytes. bytes.now) bytes.entry)) }
+{
+    match bytes {
+        Ok(_) => {
+            let count = section_count(file, section)?;
+            let records = take_records(file, section)?;
+            Ok((count, records))
+        }
+        Err(fault) => Ok((None, Err(fault))),
+    }
+}
+
+// How many relocations a section has, if that is told. To count them uses them up.
+fn section_count<E: EndianParse, R: ListedFile<E>>(
+    file: &R,
+    section: &SectionHeader,
+) -> Result<Option<u64>, NotTaken>
+    ensures { IfOk result (λ count. count
+        ≡ count_if (err_map IsRead (records_of (file_of (R.file file.now) (R.bytes file.now)) section.now))) }
+{
+    match take_records(file, section)? {
+        Ok(records) => Ok(count_of(records)),
+        Err(_) => Ok(None),
+    }
 }
 
 // The symbols that the relocations of a section use, by the number of the section that it links to.
@@ -555,6 +634,25 @@ fn take_records<'f, E: EndianParse, R: ListedFile<E>>(
             Err(error) => Ok(Err(Fault::Read(error))),
         },
     }
+}
+
+// How many relocations there are. Of packed relative ones that is not told: a table of them may have more than 64 bits
+// can count.
+fn count_of<E: EndianParse>(records: TakenRecords<'_, E>) -> Option<u64>
+    ensures { result ≡ count_of (records_view records.entry) }
+{
+    match records {
+        TakenRecords::Rels(rels) => Some(record_count(rels)),
+        TakenRecords::Relas(relas) => Some(record_count(relas)),
+        TakenRecords::Relative(_) => None,
+    }
+}
+
+fn record_count<E: EndianParse, P: ParseAt + Drop>(records: ParsingIterator<'_, E, P>) -> u64
+    ensures { result ≡ length (items_left P.reads records.entry) }
+{
+    few_records_are_left(&records);
+    records.count() as u64
 }
 
 // The symbols, or the problem that they cannot be read.

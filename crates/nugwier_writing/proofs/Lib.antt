@@ -1,4 +1,5 @@
 pub mod Writing
+pub mod Plain
 pub mod JsonStrings
 pub mod JsonReading
 pub mod Characters

@@ -126,6 +126,15 @@ shown_addend (signed n) (number zero) = signed_hex [] n
 shown_addend (signed n) symbol = after_symbol n
 shown_addend addend symbol = []
 
+-- how many rows follow a heading
+unfoldable pub known_count : ℕ → List ℕ
+known_count n = codes ", " ⧺ decimal n ⧺ codes " in all"
+
+-- the same, if it is known
+abbrev pub shown_count : Content → List ℕ
+shown_count (number n) = known_count n
+shown_count _ = []
+
 -- ---- names
 
 -- the characters of a name, with spaces after them
@@ -307,6 +316,7 @@ module _ (look : Look) where
   shown shows.Character c members = shown_character c
   shown shows.Signed c members = shown_signed c
   shown (shows.Percent all) c members = shown_percent c (content_at members all)
+  shown shows.Count c members = shown_count c
   shown shows.Pairs c members = hex_of (bytes_in c)
   shown (shows.Front most) c members = shown_front look.is_wide most (bytes_in c)
   shown (shows.Dump address) c members = dump (number_in (content_at members address)) (bytes_in c)

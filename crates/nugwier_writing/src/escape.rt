@@ -1,7 +1,7 @@
 //! Names of a file as text for a terminal.
 ghost use Rattle.std.specs.Prelude.{◌≡◌, ◌<◌, Some, false};
 ghost use Rattle.std.specs.Fmt.{WritesOnOk, digit_glyph};
-ghost use Rattle.std.specs.List.{flat_map};
+ghost use Rattle.std.specs.List.{flat_map, list_all};
 ghost use Rattle.std.specs.Str.{chars};
 ghost use Rattle.elfshow_lines.specs.Adding.{Adds};
 ghost use Rattle.nugwier_writing.specs.Escape.{escaped_byte, is_hidden, is_plain, is_shown, shown_byte, shown_bytes};
@@ -157,9 +157,33 @@ pub fn add_shown<W: Write>(bytes: &[u8], lines: &mut LineBuffer, out: &mut W)
     ensures { Adds (W.contents out.old) lines.old (W.contents out.new) lines.new (shown_bytes bytes.now) }
 {
     match from_utf8(bytes) {
-        Ok(text) => add_characters(text, lines, out),
+        Ok(text) => add_text(text, lines, out),
         Err(_) => add_bytes(bytes, lines, out),
     }
+}
+
+// Nearly all names are plain, and are added in one piece.
+#[tactic(auto, using(crate::proofs::Plain::plain_text))]
+fn add_text<W: Write>(text: &str, lines: &mut LineBuffer, out: &mut W)
+    ensures { Adds (W.contents out.old) lines.old (W.contents out.new) lines.new
+        (flat_map shown_character (chars text.now)) }
+{
+    if are_plain(text.as_bytes()) {
+        lines.text(text, out);
+    } else {
+        add_characters(text, lines, out);
+    }
+}
+
+// Looks at each byte, whatever those before it are, so that the compiler takes many at once.
+fn are_plain(bytes: &[u8]) -> bool
+    ensures { result ≡ list_all is_plain bytes.now }
+{
+    let mut are = true;
+    for byte in bytes {
+        are &= is_plain(*byte);
+    }
+    are
 }
 
 fn add_characters<W: Write>(text: &str, lines: &mut LineBuffer, out: &mut W)

@@ -6,9 +6,9 @@ ghost use Rattle.nugwier_writing.specs.Kinds.{is_heading, layout_of};
 
 use crate::text::Column;
 use crate::text::Shown::{
-    Addend, Address, Character, Decimal, Depth, Digits, Digits8, Dump, Flags, Front, Hexadecimal,
-    Index, Name, Order, Padded, Pairs, Percent, Room, SectionFlags, SegmentFlags, Signed, Target,
-    Text, Version,
+    Addend, Address, Character, Count, Decimal, Depth, Digits, Digits8, Dump, Flags, Front,
+    Hexadecimal, Index, Name, Order, Padded, Pairs, Percent, Room, SectionFlags, SegmentFlags,
+    Signed, Target, Text, Version,
 };
 
 /// A kind of record.
@@ -651,10 +651,18 @@ pub const RUNPATH: Layout = (Some("dynamic"), "runpath %\n", &[Column(5, Text)])
 
 const HEADING_COLUMNS: [Column; 2] = [Column(0, Decimal(0)), Column(1, Text)];
 
+// Of the same heading with the number of rows under it.
+const COUNTED_COLUMNS: [Column; 3] = [Column(0, Decimal(0)), Column(1, Text), Column(2, Count)];
+
 pub const RELOCATIONS_HEADING: Layout = (
     None,
-    "Relocations of section % (%):\n    nr offset  % type                   symbol, addend\n",
-    &[Column(0, Decimal(0)), Column(1, Text), Column(0, Room)],
+    "Relocations of section % (%)%:\n    nr offset  % type                   symbol, addend\n",
+    &[
+        Column(0, Decimal(0)),
+        Column(1, Text),
+        Column(2, Count),
+        Column(0, Room),
+    ],
 );
 
 pub const RELOCATION: Layout = (
@@ -693,13 +701,17 @@ pub const RELATIVE: Layout = (
 
 pub const RELOCATION_TABLE_HEADING: Layout = (
     None,
-    "Relocations of %:\n    nr offset  % type                   symbol, addend\n",
-    &[Column(0, Text), Column(0, Room)],
+    "Relocations of %%:\n    nr offset  % type                   symbol, addend\n",
+    &[Column(0, Text), Column(1, Count), Column(0, Room)],
 );
 
-pub const SECTION_NOTES_HEADING: Layout = (None, "Notes of section % (%):\n", &HEADING_COLUMNS);
+pub const SECTION_NOTES_HEADING: Layout = (None, "Notes of section % (%)%:\n", &COUNTED_COLUMNS);
 
-pub const SEGMENT_NOTES_HEADING: Layout = (None, "Notes of segment %:\n", &[Column(0, Decimal(0))]);
+pub const SEGMENT_NOTES_HEADING: Layout = (
+    None,
+    "Notes of segment %%:\n",
+    &[Column(0, Decimal(0)), Column(1, Count)],
+);
 
 pub const BUILD_ID_NOTE: Layout = (Some("note"), "  GNU build id  %\n", &[Column(5, Pairs)]);
 
@@ -800,14 +812,14 @@ pub const AUXILIARY_ENTRY: Layout = (
 
 pub const DEFINED_HEADING: Layout = (
     None,
-    "Versions defined, of section % (%):\n",
-    &HEADING_COLUMNS,
+    "Versions defined, of section % (%)%:\n",
+    &COUNTED_COLUMNS,
 );
 
 pub const NEEDED_HEADING: Layout = (
     None,
-    "Versions needed, of section % (%):\n",
-    &HEADING_COLUMNS,
+    "Versions needed, of section % (%)%:\n",
+    &COUNTED_COLUMNS,
 );
 
 // The names of flags without `VER_FLG_`.

@@ -9,12 +9,12 @@ ghost use Rattle.elfshow_lines.specs.Adding.{Adds};
 ghost use Rattle.nugwier_writing.specs.Members.{content_of, members_said};
 ghost use Rattle.nugwier_writing.specs.Text.{all_digits, ascii, ascii_text, at_signs, bytes_in, cell, content_at, dump};
 ghost use Rattle.nugwier_writing.specs.Text.{dump_address, dump_characters, dump_columns, dump_group, dump_line, is_mark};
-ghost use Rattle.nugwier_writing.specs.Text.{look_of, room_of, shown_address};
+ghost use Rattle.nugwier_writing.specs.Text.{known_count, look_of, room_of, shown_address};
 ghost use Rattle.nugwier_writing.specs.Text.{count_left_out, front_of, index_number, left_out};
 ghost use Rattle.nugwier_writing.specs.Text.{left_of, letters_of, nameless_number, nameless_signed, number_in, number_text};
 ghost use Rattle.nugwier_writing.specs.Text.{other_flags};
 ghost use Rattle.nugwier_writing.specs.Text.{row_text, section_letter, segment_flags, segment_letter, shown, shown_addend};
-ghost use Rattle.nugwier_writing.specs.Text.{shown_character, shown_decimal, shown_flag, shown_flags, shown_index, shown_name, shown_nameless};
+ghost use Rattle.nugwier_writing.specs.Text.{shown_character, shown_count, shown_decimal, shown_flag, shown_flags, shown_index, shown_name, shown_nameless};
 ghost use Rattle.nugwier_writing.specs.Text.{shown_front, shown_number, shown_order, shown_padded, shown_percent};
 ghost use Rattle.nugwier_writing.specs.Text.{bold_if, framed, percent, shown_signed, shown_text, signed_hex, tenths};
 ghost use Rattle.nugwier_writing.specs.Text.{same_text, shown_target, shown_version, text_in, wide};
@@ -49,6 +49,8 @@ pub enum Shown {
     Signed,
     /// The share of a number in the one at this place, in percent. A number above that one has none, nor has any of 0.
     Percent(usize),
+    /// How many rows follow a heading: `, 7 in all`. A value of another type is nothing, as the number is not known.
+    Count,
     /// The byte order that a number of `EI_DATA` stands for.
     Order,
     /// The flags of a section or of a segment, as letters.
@@ -247,6 +249,7 @@ fn add_value<W: Write>(
         Shown::Character => add_character(value, lines, out),
         Shown::Signed => add_signed(value, lines, out),
         Shown::Percent(all) => add_share(value, value_at(members, all), lines, out),
+        Shown::Count => add_count(value, lines, out),
         Shown::Pairs => lines.bytes("", bytes_in(value), out),
         Shown::Front(most) => add_front_or_all(look.is_wide, most, bytes_in(value), lines, out),
         Shown::Dump(address) => {
@@ -394,6 +397,25 @@ fn add_share<W: Write>(number: Value<'_>, all: Value<'_>, lines: &mut LineBuffer
         }
         _ => lines.text("     -", out),
     }
+}
+
+fn add_count<W: Write>(value: Value<'_>, lines: &mut LineBuffer, out: &mut W)
+    ensures { Adds (W.contents out.old) lines.old (W.contents out.new) lines.new
+        (shown_count (content_of value.entry)) }
+{
+    match value {
+        Value::Number(n) => add_known_count(n, lines, out),
+        _ => lines.text("", out),
+    }
+}
+
+#[tactic(auto, unfolding(crate::specs::Text::known_count))]
+fn add_known_count<W: Write>(n: u64, lines: &mut LineBuffer, out: &mut W)
+    ensures { Adds (W.contents out.old) lines.old (W.contents out.new) lines.new (known_count n) }
+{
+    lines.text(", ", out);
+    lines.decimal("", n, out);
+    lines.text(" in all", out);
 }
 
 // How many tenths of a percent a number is of another one, rounded to the nearest, and to an even one if two are.

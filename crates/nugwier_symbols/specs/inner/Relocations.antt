@@ -1,5 +1,5 @@
 -- The relocations that were taken.
-use Rattle.std.specs.Prelude.{List, ◌++◌, map}
+use Rattle.std.specs.Prelude.{ℕ, List, ◌++◌, Option, map}
 use Rattle.std.specs.Option.{option_map}
 use Rattle.elf.specs.Answers.{relas_left, rels_left}
 use Rattle.elf_dynamic.specs.Relr.{addresses_left}
@@ -34,8 +34,8 @@ place_view (place.Table table) = in_table table
 abbrev pub place_part : RelocationPlace → Part
 place_part place = part_of (place_view place)
 
-abbrev pub place_heading : RelocationPlace → Said
-place_heading place = heading_of (place_view place)
+abbrev pub place_heading : RelocationPlace → Option ℕ → Said
+place_heading place count = heading_of (place_view place) count
 
 abbrev pub symbols_view : {E : Type 0} → TakenSymbols E → Symbols
 symbols_view symbols = ((table_view symbols.table, symbols.strings), symbols.is_dynamic)
@@ -43,6 +43,7 @@ symbols_view symbols = ((table_view symbols.table, symbols.strings), symbols.is_
 abbrev pub part_view : {E : Type 0} → RelocationPart E → PlacedRelocations
 part_view part = record {
   place = place_view part.place;
+  count = part.count;
   symbols = ok_map (option_map symbols_view) part.symbols;
   records = ok_map records_view part.records;
 }

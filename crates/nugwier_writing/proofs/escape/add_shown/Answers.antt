@@ -20,7 +20,7 @@ returns-in-Ok g c =
     let contents = g.W.Write.contents in
     let read = c.in-Ok.ensures.cases in
     let same = ap (λ (t : List ℕ). flat_map shown_character (chars t)) read.0 ∙ is_text c.args.bytes.now read.1 in
-    subst (λ (text : List ℕ). Adds (contents c.args.out.now) c.args.lines.now (contents c.add_characters.new.out) c.add_characters.new.lines text) same c.add_characters.ensures
+    subst (λ (text : List ℕ). Adds (contents c.args.out.now) c.args.lines.now (contents c.add_text.new.out) c.add_text.new.lines text) same c.add_text.ensures
 
 pub returns-in-Err : goal.returns-in-Err
 returns-in-Err g c =
