@@ -17,7 +17,7 @@ complete -c nugwier -n "__fish_seen_subcommand_from help" -f -a "$commands"
 complete -c nugwier -n "not __fish_seen_subcommand_from $commands" -s V -l version -d "the version"
 complete -c nugwier -l help -d "how it is called"
 complete -c nugwier -n "__fish_seen_subcommand_from $commands" -l json -d "objects of JSON"
-complete -c nugwier -n "__fish_seen_subcommand_from $commands" -l color -x -a "always never" -d "bold headings"
+complete -c nugwier -n "__fish_seen_subcommand_from $commands" -l color -x -a "always never" -d "bold headings and cyan names"
 complete -c nugwier -n "__fish_seen_subcommand_from $commands" -s R -l recursive -d "ELF files below folders"
 complete -c nugwier -n "__fish_seen_subcommand_from $commands" -F
 complete -c nugwier -n "__fish_seen_subcommand_from list" -s h -d "file header"

@@ -46,7 +46,7 @@ fn run_words(rt: &HostRuntime) -> io::Result<u8> {
     let files = SystemFiles::new(rt);
     let (outcome, _, _) = run(
         rt.alloc(),
-        shows_bold(rt),
+        shows_color(rt),
         words.as_slice(),
         &files,
         out,
@@ -56,8 +56,8 @@ fn run_words(rt: &HostRuntime) -> io::Result<u8> {
     Ok(if are_text { status } else { status.max(1) })
 }
 
-// Whether headings are bold: on a terminal, unless NO_COLOR is set to a text (https://no-color.org).
-fn shows_bold(rt: &HostRuntime) -> bool {
+// Whether headings are bold and names cyan: on a terminal, unless NO_COLOR is set to a text (https://no-color.org).
+fn shows_color(rt: &HostRuntime) -> bool {
     let mut room = [0; 1];
     let has_no_color = match rt.var("NO_COLOR", &mut room) {
         Ok(length) => length > 0,

@@ -1,6 +1,6 @@
 pub mod Reported
 pub mod AllFiles
-mod Trees
+mod Named
 mod Begun
 pub mod Lifting
 mod Unopened

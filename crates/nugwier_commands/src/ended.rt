@@ -6,8 +6,8 @@ ghost use Rattle.nugwier_report.specs.declared.problem.Part.TheVariants.{File};
 ghost use Rattle.nugwier_report.specs.declared.report.Summary.{Summary};
 ghost use Rattle.nugwier_commands.specs.Run.{IsProgramSaid, heading_said, lost_fault, search_of};
 ghost use Rattle.nugwier_report.specs.Told.{IsWritten};
-ghost use Rattle.nugwier_commands.specs.inner.Loading.{unread_said, written_by};
-ghost use Rattle.nugwier_programs.specs.Tree.{search_view, IsNamedSaid};
+ghost use Rattle.nugwier_commands.specs.inner.Loading.{IsNamedProgramSaid, unread_said, written_by};
+ghost use Rattle.nugwier_programs.specs.Tree.{search_view};
 ghost use Rattle.elf_libraries.specs.Tree.{found_view};
 ghost use Rattle.nugwier_listing.specs.inner.Job.{IsTablesSaid};
 ghost use Rattle.nugwier_words.specs.Words.{task_of};
@@ -18,7 +18,7 @@ use elf::file::Class;
 use elf_libraries::tree::LoadedFile;
 use nugwier_files::files::Files;
 use nugwier_listing::job::{JobTables, say_job};
-use nugwier_programs::bindings::say_bindings;
+use nugwier_programs::bindings::{say_bindings, say_bound};
 use nugwier_programs::tree::{FILE, Search, say_named, say_tree};
 use nugwier_report::names::Labels;
 use nugwier_report::problem::{Fault, Part, Stop};
@@ -191,15 +191,18 @@ impl<'j> Target<'j> {
         program: LoadedFile,
         report: &mut Report<'_, W, V>,
     ) -> Result<(), Stop>
-        ensures { OnOk result ((said : List Said) × IsNamedSaid (F.known files.now)
+        ensures { OnOk result ((said : List Said) × IsNamedProgramSaid (F.known files.now) self.now.job.now.command
             (search_of (task_of self.now.job.now)) (found_view program) said
             × (report.new ≡ saying report.old (heading_said self.now.heading self.now.path.now ++ said))) }
     {
         self.say_heading(report)?;
-        say_named(alloc, self.search(), files, program, report)
+        match self.job.command {
+            Command::Bindings => say_bound(alloc, self.search(), files, program, report),
+            _ => say_named(alloc, self.search(), files, program, report),
+        }
     }
 
-    /// Says of the program that was opened by its names alone, and of its libraries, which they are.
+    /// Says of the program that was opened by its names alone, and of its libraries, what is asked for.
     pub(crate) fn say_named<F: Files, W: Write, V: Write>(
         &self,
         alloc: Global,
@@ -208,8 +211,8 @@ impl<'j> Target<'j> {
         out: W,
         err: V,
     ) -> Ended<W, V>
-        ensures { IfOk result.said (λ summary. (said : List Said) × IsNamedSaid (F.known files.now)
-            (search_of (task_of self.now.job.now)) (found_view program) said
+        ensures { IfOk result.said (λ summary. (said : List Said) × IsNamedProgramSaid (F.known files.now)
+            self.now.job.now.command (search_of (task_of self.now.job.now)) (found_view program) said
             × IsWritten self.now.job.now.format self.now.path.now no_sections
             (record { out = W.contents out; err = V.contents err }) (written_by W.contents V.contents result) summary
             (heading_said self.now.heading self.now.path.now ++ said)) }

@@ -59,20 +59,20 @@ impl Outcome {
 }
 
 /// Does what the words, the arguments after the program's name, ask for. Writes listings to `out`, and flushes it.
-/// Headings are bold if this is said here, unless the words say something else. Tells on `err` what is wrong, and ignores
-/// an error of that write. Returns how the run ended, and the writers.
+/// Headings are bold and names cyan if this is said here, unless the words say something else. Tells on `err` what is
+/// wrong, and ignores an error of that write. Returns how the run ended, and the writers.
 pub fn run<F: Files, W: Write, V: Write>(
     alloc: Global,
-    is_bold: bool,
+    is_colored: bool,
     words: &[&str],
     files: &F,
     out: W,
     err: V,
 ) -> (Outcome, W, V)
     ensures { IsRun (F.known files.now) (record { out = W.contents out; err = V.contents err })
-        (record { out = W.contents result.1; err = V.contents result.2 }) (parsed is_bold words.now) result.0 }
+        (record { out = W.contents result.1; err = V.contents result.2 }) (parsed is_colored words.now) result.0 }
 {
-    match parse_words(alloc, is_bold, words) {
+    match parse_words(alloc, is_colored, words) {
         Ok(Request::Help(command)) => outcome_of(print(help(command), out, err)),
         Ok(Request::Version) => outcome_of(print(VERSION, out, err)),
         Ok(Request::Run(job)) => outcome_of(run_job(alloc, &job, files, out, err)),
@@ -429,29 +429,29 @@ fn run_command<F: Files, W: Write, V: Write>(
         (record { out = W.contents out; err = V.contents err }) result }
 {
     match target.job.command {
-        Command::Tree => run_tree(alloc, target, files, out, err),
+        Command::Tree => run_program(alloc, target, files, out, err),
         Command::Bindings => run_program(alloc, target, files, out, err),
         _ => run_file(alloc, target, files, out, err),
     }
 }
 
-// The program of a tree is read by parts; one that cannot be read so is read whole.
-fn run_tree<F: Files, W: Write, V: Write>(
+// A program is read by parts; one that cannot be read so is read whole.
+fn run_program<F: Files, W: Write, V: Write>(
     alloc: Global,
     target: Target<'_>,
     files: &F,
     out: W,
     err: V,
 ) -> Ended<W, V>
-    ensures { target.entry.job.now.command ≡ Command.Tree → IsFileEnded W.contents V.contents (F.known files.now)
-        (λ bytes named said. IsProgramSaid (F.known files.now) Command.Tree (task_of target.entry.job.now)
+    ensures { IsFileEnded W.contents V.contents (F.known files.now)
+        (λ bytes named said. IsProgramSaid (F.known files.now) target.entry.job.now.command (task_of target.entry.job.now)
         target.entry.path.now bytes named said)
         (task_of target.entry.job.now) target.entry.heading target.entry.path.now
         (record { out = W.contents out; err = V.contents err }) result }
 {
     match open_program(alloc, target.path, files) {
         Some(program) => target.say_named(alloc, files, program, out, err),
-        None => run_program(alloc, target, files, out, err),
+        None => run_whole_program(alloc, target, files, out, err),
     }
 }
 
@@ -464,8 +464,8 @@ fn open_program<F: Files>(alloc: Global, path: &str, files: &F) -> Option<Loaded
     LoadedFile::open_names(alloc, path.as_bytes(), source)
 }
 
-// A program is read whole, and so are the libraries whose symbols are bound.
-fn run_program<F: Files, W: Write, V: Write>(
+// The same of a program that is read whole.
+fn run_whole_program<F: Files, W: Write, V: Write>(
     alloc: Global,
     target: Target<'_>,
     files: &F,

@@ -62,7 +62,7 @@ impl Files for SystemFiles<'_> {
         Some(FileSource::new(file))
     }
 
-    // Libraries are searched for in many folders, some of which are on no machine.
+    // Libraries are searched for in many folders, and some are on no machine.
     fn open_library(&self, path: &[u8]) -> Opening<FileSource> {
         let Ok(path) = from_utf8(path) else {
             return Opening::Missing;

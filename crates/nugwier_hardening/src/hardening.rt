@@ -1,5 +1,5 @@
 //! How a file is hardened against attacks.
-ghost use Rattle.std.specs.Prelude.{◌≡◌, ◌==◌, IfOk, OnOk, drop, filter, length, map};
+ghost use Rattle.std.specs.Prelude.{◌≡◌, ◌==◌, IfOk, OnOk, filter, length, map};
 ghost use Rattle.std.specs.List.{flat_map, list_any, slice_get, slice_split};
 ghost use Rattle.std.specs.Option.{option_copied, option_map};
 ghost use Rattle.elf.specs.Answers.{symbols_view};

@@ -1,6 +1,5 @@
 //! The notes of the owner `CORE`, which describe a process that Linux wrote into a core file.
-ghost use Rattle.std.specs.Prelude.{◌≡◌, ◌==◌, drop, filter, length, OnOk};
-ghost use Rattle.elf_abi.specs.Names.{name_of};
+ghost use Rattle.std.specs.Prelude.{◌≡◌, ◌==◌, OnOk};
 ghost use Rattle.elf_names.specs.Table.{rows_of};
 ghost use Rattle.nugwier_notes.specs.CoreNotes.{auxiliary_said, auxiliary_types, code_offset, core_said, core_sizes};
 ghost use Rattle.nugwier_notes.specs.CoreNotes.{entries_said, entry_in, entry_members, entry_said, error_offset};

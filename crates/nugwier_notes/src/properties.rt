@@ -1,5 +1,5 @@
 //! The properties of the code of a file, which are an array in the descriptor of a note.
-ghost use Rattle.std.specs.Prelude.{◌≡◌, drop, OnOk};
+ghost use Rattle.std.specs.Prelude.{◌≡◌, OnOk};
 ghost use Rattle.elf_names.specs.Flags.{flags_of};
 ghost use Rattle.elf_names.specs.Table.{rows_of};
 ghost use Rattle.elf_records.specs.Endian.{any_is_little};
@@ -7,7 +7,7 @@ ghost use Rattle.nugwier_writing.specs.Members.{members_said};
 ghost use Rattle.nugwier_notes.specs.Properties.{feature_type, is_feature_type, is_level_type, is_property_note};
 ghost use Rattle.nugwier_notes.specs.Properties.{is_used_type};
 ghost use Rattle.nugwier_notes.specs.Properties.{number_in, padded, properties_said, property_at, property_flags};
-ghost use Rattle.nugwier_notes.specs.Properties.{property_members, property_name, property_number};
+ghost use Rattle.nugwier_notes.specs.Properties.{property_members, property_number};
 ghost use Rattle.nugwier_notes.specs.Properties.{property_said, property_types};
 ghost use Rattle.nugwier_report.specs.Said.{saying};
 

@@ -1,10 +1,10 @@
 -- What is said of a program about the symbols of it and of its libraries: what they bind to, and what is missing or
 -- not known. Symbols are looked up in the objects in the order of loading, but in the filtees of an object before the
 -- object itself (gABI, chapter "Dynamic Linking", sections "Shared Object Dependencies" and "Hash Table"; GNU C library).
-use Rattle.std.specs.Prelude.{◌≡◌, ℕ, ◌+◌, ◌==◌, if◌then◌else◌, List, [], ◌∷◌, ◌++◌, codes, filter}
+use Rattle.std.specs.Prelude.{◌≡◌, ◌⊎◌, ℕ, ◌+◌, ◌==◌, if◌then◌else◌, List, [], ◌∷◌, ◌++◌, codes, filter}
 use Rattle.std.specs.Prelude.{map, replicate, Option, Some, None, Result, Ok, Err, IfSome}
 use Rattle.std.specs.List.{enumerate_from, flat_map, zip}
-use Rattle.std.specs.Option.{option_map, option_to_list}
+use Rattle.std.specs.Option.{IsSomeAnd, option_map, option_to_list}
 use Rattle.elf_records.specs.Endian.{any_is_little}
 use Rattle.elf_records.specs.Symbol.{symbol_reads}
 use Rattle.elf_records.specs.Table.{Table, table_items, table_len}
@@ -22,7 +22,7 @@ use Rattle.elf_linking.specs.declared.resolve.ObjectFault.{ObjectFault}
 use Rattle.elf_linking.specs.declared.resolve.ObjectFault.TheVariants.{Read as IsRead}
 use Rattle.elf_linking.specs.SymbolBindings.{AreAllBound, is_bound}
 use Rattle.elf_linking.specs.SymbolUses.{no_uses, uses_at}
-use Rattle.elf_libraries.specs.Tree.{Entry, Found, in_order, linked_file}
+use Rattle.elf_libraries.specs.Tree.{Entry, Found, in_order, linked_file, without_bytes}
 use Rattle.elf_linking.specs.declared.bindings.kinds.SymbolBinding.{SymbolBinding}
 use Rattle.elf_linking.specs.declared.bindings.uses.SymbolUses.{SymbolUses}
 use Rattle.elf_linking.specs.declared.bindings.uses.UsesError.{UsesError}
@@ -245,11 +245,23 @@ AreObjectsSaid known (program ∷ libraries) said =
     × (others : List Said) × IsProgramSaid known (file_in opening) libraries others
     × (said ≡ open_problem opening ++ others)
 
--- of a file: that it is no program, or which libraries are missing or have names that are not known, and what the
--- symbols bind to
-abbrev pub IsBindingsSaid : Known → Search → Result Found ParseError → List Said → Type 0
-IsBindingsSaid known search (Ok program) said =
+-- of a program: which libraries are missing or have names that are not known, and what the symbols bind to
+abbrev pub IsBoundSaid : Known → Search → Found → List Said → Type 0
+IsBoundSaid known search program said =
     (order : Order) × AreNamedObjects known search program order
     × (symbols : List Said) × AreObjectsSaid known (in_order order.0 order.1) symbols
     × (said ≡ object_problems order.0 ++ symbols)
+
+-- its bytes are what is at its path
+abbrev pub IsAtPath : Known → Found → Type 0
+IsAtPath known program = IsSomeAnd known (λ files. files.contents program.path ≡ Some program.bytes)
+
+-- a program is kept with its bytes; or without them, if they are at its path, where they are read again
+abbrev pub IsKept : Known → Found → Found → Type 0
+IsKept known program kept = (kept ≡ program) ⊎ ((kept ≡ without_bytes program) × IsAtPath known program)
+
+-- of a file: that it is no program, or what is said of the program
+abbrev pub IsBindingsSaid : Known → Search → Result Found ParseError → List Said → Type 0
+IsBindingsSaid known search (Ok program) said =
+    (kept : Found) × IsKept known program kept × IsBoundSaid known search kept said
 IsBindingsSaid known search (Err e) said = said ≡ wrong (whole File) (Read e) ∷ []

@@ -1,9 +1,10 @@
 //! What the symbols of a program and of its libraries bind to.
 ghost use Rattle.std.specs.Prelude.{◌≡◌, ◌∷◌, ◌++◌, List, OnOk, Some, map};
 ghost use Rattle.std.specs.List.{flat_map};
-ghost use Rattle.elf_libraries.specs.Tree.{entry_of, entry_view, file_of};
+ghost use Rattle.elf_libraries.specs.Tree.{entry_of, entry_view, file_of, found_view};
 ghost use Rattle.nugwier_programs.specs.Bindings.{AreAllFilesSaid, AreObjectsSaid, AreSearched, IsBindingsSaid};
-ghost use Rattle.nugwier_programs.specs.Bindings.{IsProgramSaid, SearchedFile, Searching, files_of, search_problem};
+ghost use Rattle.nugwier_programs.specs.Bindings.{IsBoundSaid, IsProgramSaid, SearchedFile, Searching, files_of};
+ghost use Rattle.nugwier_programs.specs.Bindings.{search_problem};
 ghost use Rattle.nugwier_programs.specs.inner.Scope.{AreInScope, open_view, searched_file};
 ghost use Rattle.nugwier_programs.specs.Tree.{search_view};
 ghost use Rattle.nugwier_report.specs.Said.{Said, saying};
@@ -19,7 +20,7 @@ use crate::bindings::objects::{
 use crate::bindings::rows::say_file;
 use crate::bindings::targets::Scope;
 use crate::tree::{Search, named_objects, open_program, say_problems};
-use elf_libraries::tree::{Object, in_order};
+use elf_libraries::tree::{LoadedFile, Object, in_order};
 use nugwier_files::files::Files;
 use nugwier_report::problem::Stop;
 use nugwier_report::report::Report;
@@ -44,6 +45,21 @@ pub fn say_bindings<F: Files, W: Write, V: Write>(
     let Some(program) = open_program(alloc, path, data, report)? else {
         return Ok(());
     };
+    say_bound(alloc, search, files, program, report)
+}
+
+/// Says the same of a program that was opened. What look-ups use of one without its bytes is read from its path.
+pub fn say_bound<F: Files, W: Write, V: Write>(
+    alloc: Global,
+    search: Search<'_>,
+    files: &F,
+    program: LoadedFile,
+    report: &mut Report<'_, W, V>,
+) -> Result<(), Stop>
+    ensures { OnOk result ((said : List Said)
+        × IsBoundSaid (F.known files.now) (search_view search.entry) (found_view program) said
+        × (report.new ≡ saying report.old said)) }
+{
     let order = named_objects(alloc, search, files, program)?;
     say_problems(&order.objects, report)?;
     let objects = in_order(alloc, &order)?;

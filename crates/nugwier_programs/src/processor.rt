@@ -1,11 +1,10 @@
 //! The subfolders of `glibc-hwcaps` that the dynamic linker of glibc searches on this processor.
 ghost use Rattle.std.specs.Prelude.{◌≡◌, ◌==◌, IfOk, IfSome, map};
-ghost use Rattle.std.specs.List.{find, slice_split};
 ghost use Rattle.std.specs.Option.{option_map};
 ghost use Rattle.std.specs.Vec.{vec_items};
 ghost use Rattle.elf_libraries.specs.Search.{folders_view};
 ghost use Rattle.nugwier_programs.specs.Processor.{cpuinfo, features_in, has, has_all, has_levels, hwcaps_of, level_for};
-ghost use Rattle.nugwier_programs.specs.Processor.{level_if, level_of, lines_of, names_features, words_if, words_of};
+ghost use Rattle.nugwier_programs.specs.Processor.{level_if, level_of, lines_of, words_of};
 
 pub mod worked;
 

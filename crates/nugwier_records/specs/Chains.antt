@@ -1,7 +1,10 @@
 -- What is said of the chains of hash sections.
-use Rattle.std.specs.Prelude.{ℕ, List, [], ◌∷◌, Some, codes}
-use Rattle.nugwier_writing.specs.Members.{Members, number, text}
+use Rattle.std.specs.Prelude.{ℕ, List, [], ◌∷◌, Option, Some, None, codes}
+use Rattle.nugwier_writing.specs.Members.{Members, number, text, word}
+use Rattle.nugwier_report.specs.Parts.{part_member}
 use Rattle.nugwier_report.specs.Said.{Said, numbered, states}
+use Rattle.nugwier_report.specs.declared.problem.Part.{Part}
+use Rattle.nugwier_report.specs.declared.problem.Part.TheVariants.{Dynamic, Section}
 use Rattle.nugwier_records.specs.declared.chains.ChainCount.{ChainCount}
 use Rattle.nugwier_records.specs.declared.chains.Chains.{Chains}
 use Rattle.nugwier_writing.specs.declared.kind.Kind.TheVariants as kind
@@ -23,21 +26,32 @@ chains_members k name all =
     ∷ (codes "buckets", number all.buckets)
     ∷ []
 
--- those of length n
-abbrev pub length_members : ℕ → ChainCount → ℕ → ChainCount → Members
-length_members k all n count =
-    (codes "section", number k)
+-- of the hash table whose address the entry with this tag gives
+abbrev pub entry_chains_members : List ℕ → ChainCount → Members
+entry_chains_members tag all = (codes "table", text (Some tag)) ∷ (codes "buckets", number all.buckets) ∷ []
+
+-- those of length n, of a part or of the table of an entry
+abbrev pub length_members : Part → Option (List ℕ) → ChainCount → ℕ → ChainCount → Members
+length_members part tag all n count =
+    part_member part
     ∷ (codes "length", number n)
     ∷ (codes "buckets", number count.buckets)
     ∷ (codes "all_buckets", number all.buckets)
     ∷ (codes "symbols", number count.symbols)
     ∷ (codes "all_symbols", number all.symbols)
+    ∷ (codes "table", word tag)
     ∷ []
 
-abbrev pub length_said : ℕ → ChainCount → ℕ → ChainCount → List Said
-length_said k all n count = states kind.ChainLength (length_members k all n count) ∷ []
+abbrev pub length_said : Part → Option (List ℕ) → ChainCount → ℕ → ChainCount → List Said
+length_said part tag all n count = states kind.ChainLength (length_members part tag all n count) ∷ []
+
+abbrev pub lengths_said : Part → Option (List ℕ) → ChainsView → List Said
+lengths_said part tag chains = numbered (length_said part tag chains.all) 0 chains.lengths
 
 abbrev pub chains_said : ℕ → List ℕ → ChainsView → List Said
 chains_said k name chains =
-    states kind.ChainsHeading (chains_members k name chains.all)
-    ∷ numbered (length_said k chains.all) 0 chains.lengths
+    states kind.ChainsHeading (chains_members k name chains.all) ∷ lengths_said (Section k) None chains
+
+abbrev pub entry_chains_said : List ℕ → ChainsView → List Said
+entry_chains_said tag chains =
+    states kind.ChainsTableHeading (entry_chains_members tag chains.all) ∷ lengths_said Dynamic (Some tag) chains

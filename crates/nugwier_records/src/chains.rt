@@ -1,11 +1,12 @@
 //! What is said of the chains of hash sections.
 ghost use Rattle.std.specs.Prelude.{◌≡◌, OnOk};
-ghost use Rattle.nugwier_records.specs.Chains.{chains_members, chains_said, chains_view, length_members};
-ghost use Rattle.nugwier_records.specs.Chains.{length_said};
+ghost use Rattle.std.specs.Option.{option_copied};
+ghost use Rattle.nugwier_records.specs.Chains.{chains_members, chains_said, chains_view, entry_chains_members};
+ghost use Rattle.nugwier_records.specs.Chains.{entry_chains_said, length_members, length_said, lengths_said};
 ghost use Rattle.nugwier_writing.specs.Members.{members_said};
 ghost use Rattle.nugwier_report.specs.Said.{saying};
 
-use nugwier_report::problem::Stop;
+use nugwier_report::problem::{Part, Stop, part_member};
 use nugwier_report::report::Report;
 use nugwier_report::rows::{Row, say_slice};
 use nugwier_writing::json::{Member, Value};
@@ -36,13 +37,44 @@ pub fn say_chains<W: Write, V: Write>(
 ) -> Result<(), Stop>
     ensures { OnOk result (report.new ≡ saying report.old (chains_said section name.now (chains_view chains.now))) }
 {
-    let all = chains.all;
-    report.state(Kind::ChainsHeading, &chains_members(section, name, all))?;
-    say_slice(
-        chains.lengths.as_slice(),
-        &LengthRow { section, all },
-        report,
-    )
+    report.state(
+        Kind::ChainsHeading,
+        &chains_members(section, name, chains.all),
+    )?;
+    say_lengths(Part::Section(section), None, chains, report)
+}
+
+/// The same of a hash table, by the tag of the dynamic entry that gives its address.
+pub fn say_entry_chains<W: Write, V: Write>(
+    tag: &'static str,
+    chains: &Chains,
+    report: &mut Report<'_, W, V>,
+) -> Result<(), Stop>
+    ensures { OnOk result (report.new ≡ saying report.old (entry_chains_said tag.now (chains_view chains.now))) }
+{
+    report.state(
+        Kind::ChainsTableHeading,
+        &entry_chains_members(tag, chains.all),
+    )?;
+    say_lengths(Part::Dynamic, Some(tag), chains, report)
+}
+
+// Says how many chains of a part, or of the table of an entry with this tag, have each length.
+fn say_lengths<W: Write, V: Write>(
+    part: Part,
+    tag: Option<&'static str>,
+    chains: &Chains,
+    report: &mut Report<'_, W, V>,
+) -> Result<(), Stop>
+    ensures { OnOk result (report.new
+        ≡ saying report.old (lengths_said part (option_copied tag.entry) (chains_view chains.now))) }
+{
+    let row = LengthRow {
+        part,
+        tag,
+        all: chains.all,
+    };
+    say_slice(chains.lengths.as_slice(), &row, report)
 }
 
 fn chains_members<'a>(section: u64, name: &'a [u8], all: ChainCount) -> [Member<'a>; 3]
@@ -55,17 +87,27 @@ fn chains_members<'a>(section: u64, name: &'a [u8], all: ChainCount) -> [Member<
     ]
 }
 
+fn entry_chains_members(tag: &str, all: ChainCount) -> [Member<'_>; 2]
+    ensures { members_said result ≡ entry_chains_members tag.now all }
+{
+    [
+        ("table", Value::Text(Some(tag.as_bytes()))),
+        ("buckets", Value::Number(all.buckets)),
+    ]
+}
+
 // The chains of a length, which is the number of the row.
 #[derive(Drop)]
 struct LengthRow {
-    section: u64,
+    part: Part,
+    tag: Option<&'static str>,
     all: ChainCount,
 }
 
 impl Row for LengthRow {
     type Item = ChainCount;
 
-    ghost said = { λ row number count. length_said row.section row.all number count };
+    ghost said = { λ row number count. length_said row.part (option_copied row.tag) row.all number count };
 
     fn say<W: Write, V: Write>(
         &self,
@@ -73,27 +115,27 @@ impl Row for LengthRow {
         count: &ChainCount,
         report: &mut Report<'_, W, V>,
     ) -> Result<(), Stop> {
-        report.state(
-            Kind::ChainLength,
-            &length_members(self.section, self.all, number, *count),
-        )
+        let members = length_members(self.part, self.tag, self.all, number, *count);
+        report.state(Kind::ChainLength, &members)
     }
 }
 
 fn length_members(
-    section: u64,
+    part: Part,
+    tag: Option<&'static str>,
     all: ChainCount,
     length: u64,
     count: ChainCount,
-) -> [Member<'static>; 6]
-    ensures { members_said result ≡ length_members section all length count }
+) -> [Member<'static>; 7]
+    ensures { members_said result ≡ length_members part (option_copied tag.entry) all length count }
 {
     [
-        ("section", Value::Number(section)),
+        part_member(part),
         ("length", Value::Number(length)),
         ("buckets", Value::Number(count.buckets)),
         ("all_buckets", Value::Number(all.buckets)),
         ("symbols", Value::Number(count.symbols)),
         ("all_symbols", Value::Number(all.symbols)),
+        ("table", Value::Word(tag)),
     ]
 }

@@ -1,5 +1,6 @@
 -- What the writers got, one thing that is said more.
 use Rattle.std.proofs.Common.{◌≡◌, ℕ, Bool, true, false, ◌&&◌, List, [], ◌∷◌, ◌++◌, Option, Some, None, Result, Ok, Err, refl, sym, ap, ◌∙◌, append_assoc, append-nil}
+use Rattle.std.proofs.lemmas.Bool.{and_parts}
 use Rattle.std.specs.Io.KnownBytes.{Appends}
 use Rattle.std.specs.Result.{OnOk, is_ok}
 use Rattle.nugwier_report.specs.Said.{Said, all_right, is_right_one}
@@ -64,10 +65,6 @@ wrong_more (x ∷ xs) s h = ap (λ (b : Bool). is_right_one x && b) (wrong_more 
 abbrev pub start : Option (List ℕ) → Option (List ℕ) → Written
 start out err = record { out = out; err = err }
 
-both_true : (a b : Bool) → (a && b) ≡ true → (a ≡ true) × (b ≡ true)
-both_true true b h = (refl, h)
-both_true false b h = absurd (cc h)
-
 module _ {A : Type 0} (AreOf : A → List ℕ → List ℕ → Type 0) where
   -- the writers got the texts of one more, each unless a write of it failed
   pub written_more : (lost lost' told told' : Bool) (start start' now next : Written) (said said' : List A) (s : A) (own other : List ℕ)
@@ -92,7 +89,7 @@ module _ {A : Type 0} (AreOf : A → List ℕ → List ℕ → Type 0) where
     s' ++ t',
     texts_both AreOf xs ys s s' t t' is are,
     λ kept. appends_both a.out b.out c.out s t (h refl) (k refl),
-    λ kept. let both = both_true told told' kept in appends_both a.err b.err c.err s' t' (h' both.0) (k' both.1),
+    λ kept. let both = and_parts told told' kept in appends_both a.err b.err c.err s' t' (h' both.0) (k' both.1),
   )
 
   -- the texts of some as those of one

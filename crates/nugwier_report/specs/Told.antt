@@ -27,7 +27,7 @@ object_if path None members = []
 -- the row of a record
 abbrev pub text_of : Style → Class → Kind → Members → List ℕ
 text_of style class kind members =
-    bold_if (style.is_bold && is_heading kind)
+    bold_if (style.is_colored && is_heading kind)
     (row_text (look_of style class) members (layout_of kind).row (layout_of kind).columns)
 
 -- in a file of this class

@@ -1,5 +1,5 @@
 //! A report of a file: what is said of it is written as it comes.
-ghost use Rattle.std.specs.Prelude.{◌≡◌, ◌∷◌, [], ◌++◌, false, true, IfOk, OnOk, List, string_bytes};
+ghost use Rattle.std.specs.Prelude.{◌≡◌, ◌∷◌, [], ◌++◌, false, true, IfOk, OnOk, string_bytes};
 ghost use Rattle.std.specs.Io.KnownBytes.{Appends};
 ghost use Rattle.std.specs.Result.{result_ok};
 ghost use Rattle.nugwier_writing.specs.Kinds.{layout_of};

@@ -1,9 +1,13 @@
 -- What is said of the chains of hash sections (gABI, chapter "Hash Table", and GNU's).
-use Rattle.std.specs.Prelude.{ℕ, zero, suc, ◌+◌, ◌-◌, ◌*◌, ◌%◌, ◌==◌, nat_lt, if◌then◌else◌, List, [], ◌∷◌}
-use Rattle.std.specs.Prelude.{length, sum, Result, Ok, Err}
+use Rattle.std.specs.Prelude.{ℕ, zero, suc, ◌+◌, ◌-◌, ◌*◌, ◌%◌, ◌==◌, nat_lt, if◌then◌else◌, List, [], ◌∷◌, ◌++◌}
+use Rattle.std.specs.Prelude.{codes, length, sum, Option, Some, None, Result, Ok, Err}
 use Rattle.std.specs.List.{flat_map}
+use Rattle.std.specs.Option.{option_map}
 use Rattle.elf.specs.ObjectFile.{ObjectFile, err_map}
 use Rattle.elf_abi.specs.declared.abi.TheConstants.{SHT_GNU_HASH, SHT_HASH}
+use Rattle.elf_dynamic.specs.declared.dynamic_view.error.DynamicError.{DynamicError}
+use Rattle.elf_dynamic.specs.dynamic_view.Entries.{dynamic_table, entries_in}
+use Rattle.elf_dynamic.specs.dynamic_view.Hashes.{gnu_hash, sysv_hash}
 use Rattle.elf_parts.specs.GnuFind.{GnuTable, gnu_section, gnu_view}
 use Rattle.elf_parts.specs.Hash.{word_at, word_count}
 use Rattle.elf_parts.specs.SysvFind.{SysvTable, sysv_section, sysv_view}
@@ -11,6 +15,7 @@ use Rattle.elf_records.specs.Number.{ok_map}
 use Rattle.elf_records.specs.Record.{◌>>=◌}
 use Rattle.elf_records.specs.Table.{Table, table_items}
 use Rattle.elf_records.specs.Word.{u32_reads}
+use Rattle.elf_records.specs.declared.dynamic.Dyn.{Dyn}
 use Rattle.elf_records.specs.declared.parse.ParseError.{ParseError}
 use Rattle.elf_records.specs.declared.section.SectionHeader.{SectionHeader}
 use Rattle.nugwier_taking.specs.Headings.{known_names}
@@ -19,12 +24,12 @@ use Rattle.nugwier_taking.specs.Read.{given_said}
 use Rattle.nugwier_taking.specs.TypedSections.{TypedSection, sections_of}
 use Rattle.nugwier_sections.specs.declared.chains.HashTable.{HashTable}
 use Rattle.nugwier_sections.specs.declared.chains.HashTable.TheVariants.{Gnu, SysV}
-use Rattle.nugwier_records.specs.Chains.{ChainsView, chains_said}
-use Rattle.nugwier_report.specs.Said.{Said}
+use Rattle.nugwier_records.specs.Chains.{ChainsView, chains_said, entry_chains_said}
+use Rattle.nugwier_report.specs.Said.{Said, whole, wrong}
 use Rattle.nugwier_records.specs.declared.chains.ChainCount.{ChainCount}
 use Rattle.nugwier_report.specs.declared.problem.Fault.{Fault}
-use Rattle.nugwier_report.specs.declared.problem.Fault.TheVariants.{LongChains, Read}
-use Rattle.nugwier_report.specs.declared.problem.Part.TheVariants.{Section}
+use Rattle.nugwier_report.specs.declared.problem.Fault.TheVariants.{Linked, LongChains, Read}
+use Rattle.nugwier_report.specs.declared.problem.Part.TheVariants.{Dynamic, Section}
 
 -- a hash section of either kind
 pub data HashView : Type 0 where
@@ -132,5 +137,37 @@ abbrev pub chains_of : ObjectFile → TypedSection → List Said
 chains_of file s =
     section_chains_said s.number (label_name (known_names file) s.header) (chains_within file s.header s.bytes)
 
+-- ---- of a file that declares no sections: by its dynamic entries
+
+-- of the hash table whose address the entry with this tag gives
+abbrev pub entry_said : List ℕ → Result ChainsView Fault → List Said
+entry_said tag chains = given_said Dynamic (entry_chains_said tag) chains
+
+-- if there is such an entry
+abbrev pub found_entry_said : List ℕ → Result (Option HashView) DynamicError → List Said
+found_entry_said tag (Ok (Some table)) = entry_said tag (chains_in table)
+found_entry_said tag (Ok None) = []
+found_entry_said tag (Err e) = entry_said tag (Err (Linked e))
+
+abbrev pub sysv_entry : ObjectFile → List Dyn → Result (Option HashView) DynamicError
+sysv_entry file entries = ok_map (option_map sysv) (sysv_hash file entries)
+
+abbrev pub gnu_entry : ObjectFile → List Dyn → Result (Option HashView) DynamicError
+gnu_entry file entries = ok_map (option_map gnu) (gnu_hash file entries)
+
+abbrev pub entries_said : ObjectFile → List Dyn → List Said
+entries_said file entries =
+    found_entry_said (codes "DT_HASH") (sysv_entry file entries)
+    ++ found_entry_said (codes "DT_GNU_HASH") (gnu_entry file entries)
+
+abbrev pub found_entries_said : ObjectFile → Result (Option Table) DynamicError → List Said
+found_entries_said file (Ok (Some table)) = entries_said file (entries_in table)
+found_entries_said file (Ok None) = []
+found_entries_said file (Err e) = wrong (whole Dynamic) (Linked e) ∷ []
+
+-- ---- of a file
+
 abbrev pub said_of_chains : ObjectFile → List Said
-said_of_chains file = flat_map (chains_of file) (sections_of file (SHT_HASH ∷ SHT_GNU_HASH ∷ []))
+said_of_chains file =
+    if file.declares_sections then flat_map (chains_of file) (sections_of file (SHT_HASH ∷ SHT_GNU_HASH ∷ []))
+    else found_entries_said file (dynamic_table file)

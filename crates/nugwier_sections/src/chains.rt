@@ -1,20 +1,26 @@
-//! The chains of hash sections.
-ghost use Rattle.std.specs.Prelude.{◌≡◌, ◌<◌, ◌≤◌, ◌^◌, [], sum, IfOk, OnOk};
+//! The chains of hash sections: by the section headers; if a file declares none by its dynamic entries.
+ghost use Rattle.std.specs.Prelude.{◌≡◌, ◌<◌, ◌≤◌, ◌^◌, ◌∷◌, ◌++◌, [], sum, IfOk, OnOk};
 ghost use Rattle.std.specs.List.{flat_map};
-ghost use Rattle.elf.specs.ObjectFile.{err_map};
+ghost use Rattle.std.specs.Option.{option_map};
+ghost use Rattle.elf_abi.specs.declared.abi.TheConstants.{SHT_GNU_HASH, SHT_HASH};
+ghost use Rattle.elf_dynamic.specs.dynamic_view.Entries.{entries_in};
 ghost use Rattle.elf_parts.specs.Hash.{word_at};
 ghost use Rattle.elf_records.specs.Number.{ok_map};
 ghost use Rattle.elf_records.specs.Table.{table_view};
-ghost use Rattle.nugwier_sections.specs.Chains.{all_lengths, buckets_of, chain_length, chain_words_of};
+ghost use Rattle.nugwier_sections.specs.Chains.{all_lengths, buckets_of, chain_length, chain_words_of, chains_of};
 ghost use Rattle.nugwier_sections.specs.Chains.{chains_at, chains_by, chains_in, chains_within, counted_after};
-ghost use Rattle.nugwier_sections.specs.Chains.{counts_from, gnu_length};
+ghost use Rattle.nugwier_sections.specs.Chains.{counts_from, entries_said, entry_said, found_entry_said, gnu_entry};
+ghost use Rattle.nugwier_sections.specs.Chains.{gnu_length};
 ghost use Rattle.nugwier_sections.specs.Chains.{hash_table, hash_view, one_more, said_of_chains};
-ghost use Rattle.nugwier_sections.specs.Chains.{sysv_length, word_read};
+ghost use Rattle.nugwier_sections.specs.Chains.{section_chains_said, sysv_entry, sysv_length, word_read};
+ghost use Rattle.nugwier_report.specs.Said.{saying};
 ghost use Rattle.nugwier_taking.specs.Headings.{known_names};
+ghost use Rattle.nugwier_taking.specs.TypedSections.{sections_of};
 ghost use Rattle.nugwier_taking.specs.Whole.{file_of};
 ghost use Rattle.nugwier_sections.specs.inner.Chains.{part_said, symbols_in};
 ghost use Rattle.nugwier_records.specs.Chains.{chains_view};
 
+use elf::dynamic::DynamicTable;
 use elf::endian::EndianParse;
 use elf::hash::{GnuHashTable, SysVHashTable};
 use elf::headers::Headers;
@@ -22,11 +28,13 @@ use elf::parse::ParsingTable;
 use elf::reader::Reader;
 use elf::section::SectionHeader;
 use elf::{ParseError, abi};
-use nugwier_records::chains::{ChainCount, Chains, say_chains};
+use elf_dynamic::dynamic_view::DynamicError;
+use nugwier_records::chains::{ChainCount, Chains, say_chains, say_entry_chains};
 use nugwier_report::names::label_name;
 use nugwier_report::problem::{Fault, Part, Stop};
 use nugwier_report::report::Report;
 use nugwier_taking::headings::known_names;
+use nugwier_taking::linked;
 use nugwier_taking::listed::ListedFile;
 use nugwier_taking::parts::TakenPart;
 use nugwier_taking::taking::NotTaken;
@@ -34,11 +42,17 @@ use nugwier_taking::typed_sections::{HASH_TYPES, TypedSection, sections_of};
 use std::alloc::{AllocError, Global};
 use std::io::Write;
 
-/// The chains of a hash section, by its number and its name.
+// Where a hash section is: in a section, by its number and its name, or where the dynamic entry with this tag says.
+#[derive(Clone, Copy)]
+enum ChainsPlace<'f> {
+    Section(u64, &'f [u8]),
+    Entry(&'static str),
+}
+
+/// The chains of a hash section, with its place.
 #[derive(Drop)]
 pub struct ChainsPart<'f> {
-    number: u64,
-    name: &'f [u8],
+    place: ChainsPlace<'f>,
     chains: Result<Chains, Fault<'static>>,
 }
 
@@ -46,15 +60,39 @@ impl TakenPart for ChainsPart<'_> {
     ghost said = { part_said };
 
     fn say<W: Write, V: Write>(self, report: &mut Report<'_, W, V>) -> Result<(), Stop> {
-        let ChainsPart {
-            number,
-            name,
-            chains,
-        } = self;
-        match chains {
-            Ok(chains) => say_chains(number, name, &chains, report),
-            Err(fault) => report.problem(Part::Section(number).whole(), fault),
+        let ChainsPart { place, chains } = self;
+        match place {
+            ChainsPlace::Section(number, name) => say_section(number, name, chains, report),
+            ChainsPlace::Entry(tag) => say_entry(tag, chains, report),
         }
+    }
+}
+
+fn say_section<W: Write, V: Write>(
+    number: u64,
+    name: &[u8],
+    chains: Result<Chains, Fault<'static>>,
+    report: &mut Report<'_, W, V>,
+) -> Result<(), Stop>
+    ensures { OnOk result (report.new ≡ saying report.old
+        (section_chains_said number name.now (ok_map chains_view chains.entry))) }
+{
+    match chains {
+        Ok(chains) => say_chains(number, name, &chains, report),
+        Err(fault) => report.problem(Part::Section(number).whole(), fault),
+    }
+}
+
+fn say_entry<W: Write, V: Write>(
+    tag: &'static str,
+    chains: Result<Chains, Fault<'static>>,
+    report: &mut Report<'_, W, V>,
+) -> Result<(), Stop>
+    ensures { OnOk result (report.new ≡ saying report.old (entry_said tag.now (ok_map chains_view chains.entry))) }
+{
+    match chains {
+        Ok(chains) => say_entry_chains(tag, &chains, report),
+        Err(fault) => report.problem(Part::Dynamic.whole(), fault),
     }
 }
 
@@ -68,13 +106,103 @@ enum HashTable<'f, E: EndianParse> {
 // The words of buckets or of chains.
 type Words<'f, E> = ParsingTable<'f, E, u32>;
 
-/// Takes the chains of each hash section.
+/// Takes the chains of each hash section; if the file declares no sections those that dynamic entries give.
 pub fn take_chains<'f, E: EndianParse, R: ListedFile<E>>(
     alloc: Global,
     file: &'f R,
 ) -> Result<Vec<ChainsPart<'f>>, NotTaken>
     ensures { IfOk result (λ parts. flat_map part_said parts.items
         ≡ said_of_chains (file_of (R.file file.now) (R.bytes file.now))) }
+{
+    if file.declares_sections() {
+        return take_sections(alloc, file);
+    }
+    let mut parts = Vec::new(alloc);
+    match linked::entries(file)? {
+        Ok(Some(entries)) => add_entries(alloc, file, &entries, &mut parts)?,
+        Ok(None) => {}
+        Err(error) => parts.push(ChainsPart {
+            place: ChainsPlace::Entry(SYSV),
+            chains: Err(Fault::Linked(error)),
+        })?,
+    }
+    Ok(parts)
+}
+
+// The tags of the dynamic entries that give the addresses of hash sections.
+const SYSV: &str = "DT_HASH";
+
+const GNU: &str = "DT_GNU_HASH";
+
+// Adds the chains of the hash sections whose addresses the entries give.
+fn add_entries<'f, E: EndianParse, R: ListedFile<E>>(
+    alloc: Global,
+    file: &R,
+    entries: &DynamicTable<'_, E>,
+    parts: &mut Vec<ChainsPart<'f>>,
+) -> Result<(), NotTaken>
+    ensures { OnOk result (flat_map part_said parts.new.items ≡ flat_map part_said parts.old.items
+        ++ entries_said (file_of (R.file file.now) (R.bytes file.now)) (entries_in (table_view entries.now))) }
+{
+    add_entry(alloc, SYSV, sysv_entry(file, entries)?, parts)?;
+    add_entry(alloc, GNU, gnu_entry(file, entries)?, parts)
+}
+
+// Adds the chains of the hash section that the entry with this tag gives, if it was found.
+fn add_entry<'f, E: EndianParse>(
+    alloc: Global,
+    tag: &'static str,
+    found: Result<Option<HashTable<'_, E>>, DynamicError>,
+    parts: &mut Vec<ChainsPart<'f>>,
+) -> Result<(), NotTaken>
+    ensures { OnOk result (flat_map part_said parts.new.items ≡ flat_map part_said parts.old.items
+        ++ found_entry_said tag.now (ok_map (option_map hash_view) found.entry)) }
+{
+    let chains = match found {
+        Ok(Some(table)) => table.counted(alloc)?,
+        Ok(None) => return Ok(()),
+        Err(error) => Err(Fault::Linked(error)),
+    };
+    let place = ChainsPlace::Entry(tag);
+    parts.push(ChainsPart { place, chains })?;
+    Ok(())
+}
+
+fn sysv_entry<'f, E: EndianParse, R: ListedFile<E>>(
+    file: &'f R,
+    entries: &DynamicTable<'_, E>,
+) -> Result<Result<Option<HashTable<'f, E>>, DynamicError>, NotTaken>
+    ensures { IfOk result (λ found. ok_map (option_map hash_view) found
+        ≡ sysv_entry (file_of (R.file file.now) (R.bytes file.now)) (entries_in (table_view entries.now))) }
+{
+    match linked::sysv_hash(file, entries)? {
+        Ok(Some(table)) => Ok(Ok(Some(HashTable::SysV(table)))),
+        Ok(None) => Ok(Ok(None)),
+        Err(error) => Ok(Err(error)),
+    }
+}
+
+fn gnu_entry<'f, E: EndianParse, R: ListedFile<E>>(
+    file: &'f R,
+    entries: &DynamicTable<'_, E>,
+) -> Result<Result<Option<HashTable<'f, E>>, DynamicError>, NotTaken>
+    ensures { IfOk result (λ found. ok_map (option_map hash_view) found
+        ≡ gnu_entry (file_of (R.file file.now) (R.bytes file.now)) (entries_in (table_view entries.now))) }
+{
+    match linked::gnu_hash(file, entries)? {
+        Ok(Some(table)) => Ok(Ok(Some(HashTable::Gnu(table)))),
+        Ok(None) => Ok(Ok(None)),
+        Err(error) => Ok(Err(error)),
+    }
+}
+
+fn take_sections<'f, E: EndianParse, R: ListedFile<E>>(
+    alloc: Global,
+    file: &'f R,
+) -> Result<Vec<ChainsPart<'f>>, NotTaken>
+    ensures { let whole = file_of (R.file file.now) (R.bytes file.now) in
+        IfOk result (λ parts. flat_map part_said parts.items
+        ≡ flat_map (chains_of whole) (sections_of whole (SHT_HASH ∷ SHT_GNU_HASH ∷ []))) }
 {
     let names = known_names(file)?;
     let mut parts = Vec::new(alloc);
@@ -85,12 +213,8 @@ pub fn take_chains<'f, E: EndianParse, R: ListedFile<E>>(
             bytes,
         } = section;
         let chains = chains_within(alloc, file, &header, bytes)?;
-        let name = label_name(&names, &header);
-        parts.push(ChainsPart {
-            number,
-            name,
-            chains,
-        })?;
+        let place = ChainsPlace::Section(number, label_name(&names, &header));
+        parts.push(ChainsPart { place, chains })?;
     }
     Ok(parts)
 }

@@ -2,7 +2,6 @@
 ghost use Rattle.std.specs.Prelude.{◌≡◌, ◌++◌, IfOk, OnOk};
 ghost use Rattle.std.specs.List.{flat_map};
 ghost use Rattle.elf_records.specs.Number.{ok_map};
-ghost use Rattle.elf_tools.specs.DebugLink.{alt_link_view, link_view};
 ghost use Rattle.nugwier_sections.specs.DebugLinks.{form_of, left_after_section, link_in, link_of_section};
 ghost use Rattle.nugwier_sections.specs.DebugLinks.{own_link, said_of_debug_links, shared_link};
 ghost use Rattle.nugwier_taking.specs.Whole.{file_of};

@@ -3,12 +3,10 @@ ghost use Rattle.std.specs.Prelude.{◌≡◌, ◌++◌, IfOk, OnOk};
 ghost use Rattle.std.specs.List.{flat_map};
 ghost use Rattle.elf.specs.Answers.{segment_data};
 ghost use Rattle.elf_records.specs.Number.{ok_map};
-ghost use Rattle.nugwier_taking.specs.Read.{read_said};
 ghost use Rattle.nugwier_sections.specs.Segments.{interpreter_in, path_in, said_of_segments, segments_said};
 ghost use Rattle.nugwier_taking.specs.Whole.{file_of};
 ghost use Rattle.nugwier_sections.specs.inner.Segments.{part_said, tables_said};
 ghost use Rattle.nugwier_report.specs.Said.{numbered, saying};
-ghost use Rattle.nugwier_records.specs.Segments.{interpreter_said};
 
 use elf::endian::EndianParse;
 use elf::headers::Headers;

@@ -5,12 +5,15 @@ ghost use Rattle.std.specs.Option.{option_map};
 ghost use Rattle.elf.specs.Answers.{relas_left, rels_left, symbols_view};
 ghost use Rattle.elf.specs.Parts.{loaded};
 ghost use Rattle.elf_dynamic.specs.dynamic_view.Entries.{dynamic_table, entries_in};
+ghost use Rattle.elf_dynamic.specs.dynamic_view.Hashes.{gnu_hash, sysv_hash};
 ghost use Rattle.elf_dynamic.specs.dynamic_view.Laws.{FollowsWhole};
 ghost use Rattle.elf_dynamic.specs.dynamic_view.Relocations.{plt_left, plt_relocations, relas, relr_bytes, rels};
 ghost use Rattle.elf_dynamic.specs.dynamic_view.Strings.{strings};
 ghost use Rattle.elf_dynamic.specs.dynamic_view.Symbols.{symbols};
-ghost use Rattle.elf_dynamic.specs.dynamic_view.Versions.{versions};
-ghost use Rattle.elf_parts.specs.gnu_symver.Table.{versions_view};
+ghost use Rattle.elf_dynamic.specs.dynamic_view.Versions.{version_definitions, version_needs, versions};
+ghost use Rattle.elf_parts.specs.GnuFind.{gnu_view};
+ghost use Rattle.elf_parts.specs.SysvFind.{sysv_view};
+ghost use Rattle.elf_parts.specs.gnu_symver.Table.{definitions_view, needs_view, versions_view};
 ghost use Rattle.elf_records.specs.Number.{ok_map};
 ghost use Rattle.elf_records.specs.Table.{table_view};
 ghost use Rattle.nugwier_taking.specs.Linked.{by_entries, linked_symbols, linked_versions, symbols_by};
@@ -22,7 +25,8 @@ use crate::taking;
 use crate::taking::{FoundSymbols, NotTaken, Symbols};
 use elf::dynamic::DynamicTable;
 use elf::endian::EndianParse;
-use elf::gnu_symver::SymbolVersionTable;
+use elf::gnu_symver::{EntriesWithStrings, SymbolVersionTable, VerDef, VerNeed};
+use elf::hash::{GnuHashTable, SysVHashTable};
 use elf::headers::Headers;
 use elf::relocation::{RelIterator, RelaIterator};
 use elf::string_table::StringTable;
@@ -187,6 +191,54 @@ fn versions<'f, E: EndianParse, R: ListedFile<E>>(
 {
     is_part(file);
     taken(dynamic_view::versions(file, table))
+}
+
+/// Takes the versions that the file defines, of `DT_VERDEF`, and their strings.
+pub fn version_definitions<'f, E: EndianParse, R: ListedFile<E>>(
+    file: &'f R,
+    table: &DynamicTable<'_, E>,
+) -> Result<View<Option<EntriesWithStrings<'f, E, VerDef>>>, NotTaken>
+    ensures { IfOk result (λ found. ok_map (option_map definitions_view) found
+        ≡ version_definitions (file_of (R.file file.now) (R.bytes file.now)) (entries_in (table_view table.now))) }
+{
+    is_part(file);
+    taken(dynamic_view::version_definitions(file, table))
+}
+
+/// Takes the files with needed versions, of `DT_VERNEED`, and their strings.
+pub fn version_needs<'f, E: EndianParse, R: ListedFile<E>>(
+    file: &'f R,
+    table: &DynamicTable<'_, E>,
+) -> Result<View<Option<EntriesWithStrings<'f, E, VerNeed>>>, NotTaken>
+    ensures { IfOk result (λ found. ok_map (option_map needs_view) found
+        ≡ version_needs (file_of (R.file file.now) (R.bytes file.now)) (entries_in (table_view table.now))) }
+{
+    is_part(file);
+    taken(dynamic_view::version_needs(file, table))
+}
+
+/// Takes the SysV hash table, of `DT_HASH`.
+pub fn sysv_hash<'f, E: EndianParse, R: ListedFile<E>>(
+    file: &'f R,
+    table: &DynamicTable<'_, E>,
+) -> Result<View<Option<SysVHashTable<'f, E>>>, NotTaken>
+    ensures { IfOk result (λ found. ok_map (option_map sysv_view) found
+        ≡ sysv_hash (file_of (R.file file.now) (R.bytes file.now)) (entries_in (table_view table.now))) }
+{
+    is_part(file);
+    taken(dynamic_view::sysv_hash(file, table))
+}
+
+/// Takes the GNU hash table, of `DT_GNU_HASH`.
+pub fn gnu_hash<'f, E: EndianParse, R: ListedFile<E>>(
+    file: &'f R,
+    table: &DynamicTable<'_, E>,
+) -> Result<View<Option<GnuHashTable<'f, E>>>, NotTaken>
+    ensures { IfOk result (λ found. ok_map (option_map gnu_view) found
+        ≡ gnu_hash (file_of (R.file file.now) (R.bytes file.now)) (entries_in (table_view table.now))) }
+{
+    is_part(file);
+    taken(dynamic_view::gnu_hash(file, table))
 }
 
 /// Takes the relocations of `DT_REL`.

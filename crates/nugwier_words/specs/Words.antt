@@ -22,7 +22,7 @@ use Rattle.nugwier_words.specs.declared.asked.Awaited.TheVariants.{Folder, Forma
 use Rattle.nugwier_words.specs.declared.asked.Awaited.TheVariants.{Requirements, Root}
 use Rattle.nugwier_words.specs.declared.asked.Awaited.TheVariants.{Section}
 use Rattle.nugwier_words.specs.declared.asked.General.{General}
-use Rattle.nugwier_words.specs.declared.asked.General.TheVariants.{Bold, Json, Plain, Recursive}
+use Rattle.nugwier_words.specs.declared.asked.General.TheVariants.{Colored, Json, Plain, Recursive}
 use Rattle.nugwier_words.specs.declared.asked.Word.{Word}
 use Rattle.nugwier_words.specs.declared.asked.Word.TheVariants.{End, File, General as GeneralWord, Help, Options}
 use Rattle.nugwier_words.specs.declared.letters.Letters.{Letters}
@@ -274,7 +274,7 @@ pub record SoFar : Type 0 where
   pub requirements : List Requirement
   pub is_json : Bool
   pub is_wide : Bool
-  pub is_bold : Bool
+  pub is_colored : Bool
   pub is_recursive : Bool
   pub searches : List (List ℕ)
   pub has_cache : Bool
@@ -291,7 +291,7 @@ so_far asked = record {
   requirements = asked.requirements.items;
   is_json = asked.is_json;
   is_wide = asked.is_wide;
-  is_bold = asked.is_bold;
+  is_colored = asked.is_colored;
   is_recursive = asked.is_recursive;
   searches = texts_of asked.searches.items;
   has_cache = asked.has_cache;
@@ -302,7 +302,7 @@ so_far asked = record {
 
 -- before the first word; headings are bold or not
 abbrev pub nothing : Bool → SoFar
-nothing is_bold = record {
+nothing is_colored = record {
   parts = parts_all false;
   symbols = no_options;
   contents = [];
@@ -310,7 +310,7 @@ nothing is_bold = record {
   requirements = [];
   is_json = false;
   is_wide = false;
-  is_bold = is_bold;
+  is_colored = is_colored;
   is_recursive = false;
   searches = [];
   has_cache = true;
@@ -328,7 +328,7 @@ abbrev pub general_of : List ℕ → Option General
 general_of word =
     if bytes_eq word (codes "--json") then Some Json
     else if bytes_eq word (codes "-R") || bytes_eq word (codes "--recursive") then Some Recursive
-    else if bytes_eq word (codes "--color=always") then Some Bold
+    else if bytes_eq word (codes "--color=always") then Some Colored
     else if bytes_eq word (codes "--color=never") then Some Plain
     else None
 
@@ -508,8 +508,8 @@ with_options other asked word = wrong (NotOption other word)
 abbrev pub with_general : General → SoFar → SoFar
 with_general Json asked = record asked { is_json = true }
 with_general Recursive asked = record asked { is_recursive = true }
-with_general Bold asked = record asked { is_bold = true }
-with_general Plain asked = record asked { is_bold = false }
+with_general Colored asked = record asked { is_colored = true }
+with_general Plain asked = record asked { is_colored = false }
 
 abbrev pub with_word : Word → Command → SoFar → Bor (List ℕ) → Step
 with_word File command asked word = next (record asked { files = asked.files ++ word ∷ [] })
@@ -599,7 +599,7 @@ listed_parts parts contents = if length contents == 0 && not (has_part parts) th
 
 abbrev pub format_of : SoFar → Format
 format_of asked =
-    if asked.is_json then JsonFormat else Text (record { is_wide = asked.is_wide; is_bold = asked.is_bold })
+    if asked.is_json then JsonFormat else Text (record { is_wide = asked.is_wide; is_colored = asked.is_colored })
 
 abbrev pub run_on : Command → SoFar → List (Bor (List ℕ)) → List Sought → Result Answer WordError
 run_on command asked files addresses = Ok (run (record {
@@ -691,4 +691,4 @@ parsed_with asked (first ∷ words) = elim (general_of first.now) [
 
 -- headings are bold or not, unless the words say something else
 abbrev pub parsed : Bool → List (Bor (List ℕ)) → Result Answer WordError
-parsed is_bold words = parsed_with (nothing is_bold) words
+parsed is_colored words = parsed_with (nothing is_colored) words

@@ -22,7 +22,7 @@ use std::alloc::Global;
 pub(crate) enum General {
     Json,
     Recursive,
-    Bold,
+    Colored,
     Plain,
 }
 
@@ -58,7 +58,7 @@ pub(crate) struct Asked<'a> {
     requirements: Vec<Requirement>,
     is_json: bool,
     is_wide: bool,
-    is_bold: bool,
+    is_colored: bool,
     is_recursive: bool,
     searches: Vec<&'a str>,
     has_cache: bool,
@@ -69,8 +69,8 @@ pub(crate) struct Asked<'a> {
 
 impl<'a> Asked<'a> {
     /// What no word asks for.
-    pub fn new(alloc: Global, is_bold: bool) -> Self
-        ensures { so_far result ≡ nothing is_bold }
+    pub fn new(alloc: Global, is_colored: bool) -> Self
+        ensures { so_far result ≡ nothing is_colored }
     {
         Asked {
             alloc,
@@ -81,7 +81,7 @@ impl<'a> Asked<'a> {
             requirements: Vec::new(alloc),
             is_json: false,
             is_wide: false,
-            is_bold,
+            is_colored,
             is_recursive: false,
             searches: Vec::new(alloc),
             has_cache: true,
@@ -98,8 +98,8 @@ impl<'a> Asked<'a> {
         match option {
             General::Json => self.is_json = true,
             General::Recursive => self.is_recursive = true,
-            General::Bold => self.is_bold = true,
-            General::Plain => self.is_bold = false,
+            General::Colored => self.is_colored = true,
+            General::Plain => self.is_colored = false,
         }
     }
 
@@ -354,7 +354,7 @@ impl<'a> Asked<'a> {
         } else {
             Format::Text(Style {
                 is_wide: self.is_wide,
-                is_bold: self.is_bold,
+                is_colored: self.is_colored,
             })
         }
     }
@@ -388,7 +388,7 @@ pub(crate) fn general_of(word: &str) -> Option<General>
     match word {
         "--json" => Some(General::Json),
         "-R" | "--recursive" => Some(General::Recursive),
-        "--color=always" => Some(General::Bold),
+        "--color=always" => Some(General::Colored),
         "--color=never" => Some(General::Plain),
         _ => None,
     }

@@ -28,7 +28,7 @@ usage: nugwier COMMAND [OPTION..] FILE..
   --json            an object of JSON for each record, one a line, in place of lines for people
   -R, --recursive   of a FILE that is a folder, the ELF files below it
   --color=always, --color=never
-                    bold headings, or none; without these, bold on a terminal, unless NO_COLOR is set
+                    bold headings and cyan names, or neither; else on a terminal, unless NO_COLOR is set
   -h, --help        this text
   -V, --version     the version of nugwier
 

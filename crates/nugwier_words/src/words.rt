@@ -307,8 +307,8 @@ impl<'a, T: Drop> From<AllocFailed<T>> for WordError<'a> {
     }
 }
 
-/// Returns what the words, the arguments after the program's name, ask for. Headings are bold if this is said here,
-/// unless the words say something else.
+/// Returns what the words, the arguments after the program's name, ask for. Headings are bold and names cyan if this is
+/// said here, unless the words say something else.
 ///
 /// Errors, in order: `NoCommand` if no word but options of every command is there; `Command` if the first other word, or
 /// the one after `help`, is no command;
@@ -318,12 +318,12 @@ impl<'a, T: Drop> From<AllocFailed<T>> for WordError<'a> {
 /// `Memory` if an allocation failed.
 pub fn parse_words<'a>(
     alloc: Global,
-    is_bold: bool,
+    is_colored: bool,
     words: &[&'a str],
 ) -> Result<Request<'a>, WordError<'a>>
-    ensures { IsParsed (parsed is_bold words.now) result }
+    ensures { IsParsed (parsed is_colored words.now) result }
 {
-    let mut asked = Asked::new(alloc, is_bold);
+    let mut asked = Asked::new(alloc, is_colored);
     for (place, word) in words.iter().enumerate() {
         match general_of(word) {
             Some(option) => asked.set(option),

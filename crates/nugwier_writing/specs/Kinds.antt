@@ -12,8 +12,11 @@ pub record Layout : Type 0 where
   pub row : List ℕ
   pub columns : List Column
 
+abbrev pub layout_view : Option (List ℕ) → List ℕ → List Column → Layout
+layout_view name row columns = record { name = name; row = row; columns = columns }
+
 abbrev pub constant : Option (record { now : List ℕ }) × record { now : List ℕ } × record { now : List Column } → Layout
-constant l = record { name = option_map (λ name. name.now) l.0; row = l.1.now; columns = l.2.now }
+constant l = layout_view (option_map (λ name. name.now) l.0) l.1.now l.2.now
 
 abbrev pub layout_of : Kind → Layout
 layout_of kind.FileHeading = constant layout.FILE_HEADING
@@ -72,12 +75,15 @@ layout_of kind.SignalInfo = constant layout.SIGNAL_INFO
 layout_of kind.AuxiliaryEntry = constant layout.AUXILIARY_ENTRY
 layout_of kind.DefinedHeading = constant layout.DEFINED_HEADING
 layout_of kind.NeededHeading = constant layout.NEEDED_HEADING
+layout_of kind.DefinedTableHeading = constant layout.DEFINED_TABLE_HEADING
+layout_of kind.NeededTableHeading = constant layout.NEEDED_TABLE_HEADING
 layout_of kind.Verdef = constant layout.VERDEF
 layout_of kind.Verdaux = constant layout.VERDAUX
 layout_of kind.VerdefEnd = constant layout.VERDEF_END
 layout_of kind.Verneed = constant layout.VERNEED
 layout_of kind.Vernaux = constant layout.VERNAUX
 layout_of kind.ChainsHeading = constant layout.CHAINS_HEADING
+layout_of kind.ChainsTableHeading = constant layout.CHAINS_TABLE_HEADING
 layout_of kind.ChainLength = constant layout.CHAIN_LENGTH
 layout_of kind.AttributesHeading = constant layout.ATTRIBUTES_HEADING
 layout_of kind.AttributeScope = constant layout.ATTRIBUTE_SCOPE
@@ -131,7 +137,10 @@ is_heading kind.SectionNotesHeading = true
 is_heading kind.SegmentNotesHeading = true
 is_heading kind.DefinedHeading = true
 is_heading kind.NeededHeading = true
+is_heading kind.DefinedTableHeading = true
+is_heading kind.NeededTableHeading = true
 is_heading kind.ChainsHeading = true
+is_heading kind.ChainsTableHeading = true
 is_heading kind.AttributesHeading = true
 is_heading kind.DebugLinkHeading = true
 is_heading kind.BytesHeading = true

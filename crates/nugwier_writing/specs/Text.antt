@@ -298,7 +298,21 @@ is_mark b = b == 37
 
 -- what the cells depend on in a file of this class
 abbrev pub look_of : Style → Class → Look
-look_of style class = record { is_wide = style.is_wide; class = class }
+look_of style class = record { is_wide = style.is_wide; is_colored = style.is_colored; class = class }
+
+-- ---- text in colour
+
+-- cyan text, between the escape sequences that begin it and end a colour (ECMA-48, SGR); 27 is ESC
+unfoldable pub colored : List ℕ → List ℕ
+colored plain = (27 ∷ codes "[36m") ⧺ plain ⧺ (27 ∷ codes "[39m")
+
+-- columns with texts of the file
+abbrev pub is_text : Shown → Bool
+is_text shows.Text = true
+is_text (shows.Padded width) = true
+is_text _ = false
+
+-- ---- rows
 
 module _ (look : Look) where
   abbrev pub shown : Shown → Content → Members → List ℕ
@@ -322,9 +336,11 @@ module _ (look : Look) where
   shown (shows.Dump address) c members = dump (number_in (content_at members address)) (bytes_in c)
   shown form c members = shown_number form c
 
-  -- the member of a column
+  -- the member of a column, which may be in colour
   abbrev pub cell : Members → Column → List ℕ
-  cell members column = shown column.1 (content_at members column.0) members
+  cell members column =
+      let plain = shown column.1 (content_at members column.0) members in
+      if look.is_colored && is_text column.1 then colored plain else plain
 
   -- the text of a row, with the columns in the places of its marks
   abbrev pub row_text : Members → List ℕ → List Column → List ℕ
@@ -334,7 +350,7 @@ module _ (look : Look) where
 
 -- ---- bold text
 
--- between the escape sequences that begin and end it (ECMA-48, SGR); 27 is ESC
+-- between the escape sequences that begin and end it
 unfoldable pub framed : List ℕ → List ℕ
 framed row = (27 ∷ codes "[1m") ⧺ row ⧺ (27 ∷ codes "[0m")
 

@@ -2,7 +2,7 @@
 //! column stands in the place of each `%` in the text.
 ghost use Rattle.std.specs.Prelude.{◌≡◌};
 ghost use Rattle.std.specs.Option.{option_copied};
-ghost use Rattle.nugwier_writing.specs.Kinds.{is_heading, layout_of};
+ghost use Rattle.nugwier_writing.specs.Kinds.{is_heading, layout_of, layout_view};
 
 use crate::text::Column;
 use crate::text::Shown::{
@@ -126,6 +126,10 @@ pub enum Kind {
     DefinedHeading,
     /// The heading of the versions that a file needs: the number and the name of their section.
     NeededHeading,
+    /// The heading of the versions that a file defines, whose address a dynamic entry gives.
+    DefinedTableHeading,
+    /// The heading of the versions that a file needs, whose address a dynamic entry gives.
+    NeededTableHeading,
     /// A version that a file defines; its names follow (GNU symbol versioning).
     Verdef,
     /// A name of a version that a file defines.
@@ -138,6 +142,8 @@ pub enum Kind {
     Vernaux,
     /// The heading of the chains of a hash section: its number, its name and the number of its buckets.
     ChainsHeading,
+    /// The heading of the chains of a hash table, by the dynamic entry that gives its address.
+    ChainsTableHeading,
     /// How many buckets of a hash section have a chain of a length.
     ChainLength,
     /// The heading of the build attributes of a section: its number and its name.
@@ -219,9 +225,7 @@ pub type Layout = (Option<&'static str>, &'static str, &'static [Column]);
 impl Kind {
     /// Returns the layout of records of the kind.
     pub fn layout(self) -> Layout
-        ensures name { option_copied result.0 ≡ (layout_of self).name }
-        ensures row { result.1.now ≡ (layout_of self).row }
-        ensures columns { result.2.now ≡ (layout_of self).columns }
+        ensures { layout_view (option_copied result.0) result.1.now result.2.now ≡ layout_of self }
     {
         match self {
             Kind::FileHeading => FILE_HEADING,
@@ -280,12 +284,15 @@ impl Kind {
             Kind::AuxiliaryEntry => AUXILIARY_ENTRY,
             Kind::DefinedHeading => DEFINED_HEADING,
             Kind::NeededHeading => NEEDED_HEADING,
+            Kind::DefinedTableHeading => DEFINED_TABLE_HEADING,
+            Kind::NeededTableHeading => NEEDED_TABLE_HEADING,
             Kind::Verdef => VERDEF,
             Kind::Verdaux => VERDAUX,
             Kind::VerdefEnd => VERDEF_END,
             Kind::Verneed => VERNEED,
             Kind::Vernaux => VERNAUX,
             Kind::ChainsHeading => CHAINS_HEADING,
+            Kind::ChainsTableHeading => CHAINS_TABLE_HEADING,
             Kind::ChainLength => CHAIN_LENGTH,
             Kind::AttributesHeading => ATTRIBUTES_HEADING,
             Kind::AttributeScope => ATTRIBUTE_SCOPE,
@@ -335,7 +342,8 @@ impl Kind {
             Kind::SymbolsHeading | Kind::DynamicSymbolsHeading | Kind::EntriesHeading => true,
             Kind::RelocationsHeading | Kind::RelocationTableHeading => true,
             Kind::SectionNotesHeading | Kind::SegmentNotesHeading => true,
-            Kind::DefinedHeading | Kind::NeededHeading | Kind::ChainsHeading => true,
+            Kind::DefinedHeading | Kind::NeededHeading | Kind::DefinedTableHeading => true,
+            Kind::NeededTableHeading | Kind::ChainsHeading | Kind::ChainsTableHeading => true,
             Kind::AttributesHeading | Kind::DebugLinkHeading => true,
             Kind::BytesHeading | Kind::StringsHeading | Kind::MappingsHeading => true,
             _ => false,
@@ -343,11 +351,11 @@ impl Kind {
     }
 }
 
-pub const FILE_HEADING: Layout = (None, "%:\n", &[Column(0, Text)]);
+pub static FILE_HEADING: Layout = (None, "%:\n", &[Column(0, Text)]);
 
-pub const NEXT_FILE_HEADING: Layout = (None, "\n%:\n", &[Column(0, Text)]);
+pub static NEXT_FILE_HEADING: Layout = (None, "\n%:\n", &[Column(0, Text)]);
 
-pub const FILE_HEADER: Layout = (
+pub static FILE_HEADER: Layout = (
     Some("file_header"),
     "\
 File header:
@@ -395,7 +403,7 @@ const COUNT_COLUMN: [Column; 1] = [Column(0, Decimal(0))];
 // Of the same heading above a column of addresses.
 const COUNT_AND_ROOM: [Column; 2] = [Column(0, Decimal(0)), Column(0, Room)];
 
-pub const SECTIONS_HEADING: Layout = (
+pub static SECTIONS_HEADING: Layout = (
     None,
     "\
 Sections, % in all (flags: W write, A alloc, X execute, M merge, S strings, I info,
@@ -405,7 +413,7 @@ L link order, O of a system, G group, T thread, C compressed, R retain, l large,
     &COUNT_AND_ROOM,
 );
 
-pub const SECTION: Layout = (
+pub static SECTION: Layout = (
     Some("section_header"),
     "% % % % % % % % % % %\n",
     &[
@@ -424,7 +432,7 @@ pub const SECTION: Layout = (
 );
 
 // The names of flags without `GRP_`.
-pub const GROUP: Layout = (
+pub static GROUP: Layout = (
     Some("group"),
     "Group of section % (%): signature %, flags %%\n",
     &[
@@ -436,19 +444,19 @@ pub const GROUP: Layout = (
     ],
 );
 
-pub const GROUP_MEMBER: Layout = (
+pub static GROUP_MEMBER: Layout = (
     Some("group_member"),
     "% %\n",
     &[Column(2, Decimal(6)), Column(3, Text)],
 );
 
-pub const SEGMENTS_HEADING: Layout = (
+pub static SEGMENTS_HEADING: Layout = (
     None,
     "Segments, % in all:\n  nr type             offset   address % physical% file size memory   flags align\n",
     &[Column(0, Decimal(0)), Column(0, Room), Column(0, Room)],
 );
 
-pub const SEGMENT: Layout = (
+pub static SEGMENT: Layout = (
     Some("program_header"),
     "% % % % % %  % %   %\n",
     &[
@@ -464,33 +472,33 @@ pub const SEGMENT: Layout = (
     ],
 );
 
-pub const INTERPRETER: Layout = (
+pub static INTERPRETER: Layout = (
     Some("interpreter"),
     "Interpreter of segment %: %\n",
     &[Column(0, Decimal(0)), Column(1, Text)],
 );
 
-pub const SEGMENT_SECTIONS_HEADING: Layout = (None, "Sections of the segments:\n", &[]);
+pub static SEGMENT_SECTIONS_HEADING: Layout = (None, "Sections of the segments:\n", &[]);
 
-pub const SEGMENT_SECTIONS: Layout = (None, "%", &[Column(0, Decimal(4))]);
+pub static SEGMENT_SECTIONS: Layout = (None, "%", &[Column(0, Decimal(4))]);
 
-pub const SEGMENT_SECTION: Layout = (Some("segment_section"), " %", &[Column(2, Text)]);
+pub static SEGMENT_SECTION: Layout = (Some("segment_section"), " %", &[Column(2, Text)]);
 
-pub const SEGMENT_SECTIONS_END: Layout = (None, "\n", &[]);
+pub static SEGMENT_SECTIONS_END: Layout = (None, "\n", &[]);
 
-pub const SYMBOLS_HEADING: Layout = (
+pub static SYMBOLS_HEADING: Layout = (
     None,
     "Symbols, % in all:\n    nr value   %     size type       binding    visibility section name\n",
     &COUNT_AND_ROOM,
 );
 
-pub const DYNAMIC_SYMBOLS_HEADING: Layout = (
+pub static DYNAMIC_SYMBOLS_HEADING: Layout = (
     None,
     "Symbols for dynamic linking, % in all:\n    nr value   %     size type       binding    visibility section name\n",
     &COUNT_AND_ROOM,
 );
 
-pub const SYMBOL: Layout = (
+pub static SYMBOL: Layout = (
     Some("symbol"),
     "% % % % % % % %%\n",
     &[
@@ -506,7 +514,7 @@ pub const SYMBOL: Layout = (
     ],
 );
 
-pub const VALUED_SYMBOL: Layout = (
+pub static VALUED_SYMBOL: Layout = (
     Some("symbol"),
     "% % %%\n",
     &[
@@ -517,7 +525,7 @@ pub const VALUED_SYMBOL: Layout = (
     ],
 );
 
-pub const SIZED_SYMBOL: Layout = (
+pub static SIZED_SYMBOL: Layout = (
     Some("symbol"),
     "% % %%\n",
     &[
@@ -528,7 +536,7 @@ pub const SIZED_SYMBOL: Layout = (
     ],
 );
 
-pub const VALUED_AND_SIZED_SYMBOL: Layout = (
+pub static VALUED_AND_SIZED_SYMBOL: Layout = (
     Some("symbol"),
     "% % % %%\n",
     &[
@@ -540,7 +548,7 @@ pub const VALUED_AND_SIZED_SYMBOL: Layout = (
     ],
 );
 
-pub const UNDEFINED_SYMBOL: Layout = (
+pub static UNDEFINED_SYMBOL: Layout = (
     Some("symbol"),
     "        % % %%\n",
     &[
@@ -551,7 +559,7 @@ pub const UNDEFINED_SYMBOL: Layout = (
     ],
 );
 
-pub const PORTABLE: Layout = (
+pub static PORTABLE: Layout = (
     Some("symbol"),
     "%% % %\n",
     &[
@@ -562,7 +570,7 @@ pub const PORTABLE: Layout = (
     ],
 );
 
-pub const PORTABLE_SIZED: Layout = (
+pub static PORTABLE_SIZED: Layout = (
     Some("symbol"),
     "%% % % %\n",
     &[
@@ -574,7 +582,7 @@ pub const PORTABLE_SIZED: Layout = (
     ],
 );
 
-pub const PORTABLE_UNDEFINED: Layout = (
+pub static PORTABLE_UNDEFINED: Layout = (
     Some("symbol"),
     "%% %\n",
     &[
@@ -584,19 +592,19 @@ pub const PORTABLE_UNDEFINED: Layout = (
     ],
 );
 
-pub const EXPORT: Layout = (
+pub static EXPORT: Layout = (
     Some("symbol"),
     "%%\n",
     &[Column(3, Text), Column(16, Version(17))],
 );
 
-pub const ENTRIES_HEADING: Layout = (
+pub static ENTRIES_HEADING: Layout = (
     None,
     "Dynamic entries, % in all:\n  nr tag               value, string\n",
     &COUNT_COLUMN,
 );
 
-pub const ENTRY: Layout = (
+pub static ENTRY: Layout = (
     Some("dynamic"),
     "% % %\n",
     &[
@@ -606,7 +614,7 @@ pub const ENTRY: Layout = (
     ],
 );
 
-pub const NAMED_ENTRY: Layout = (
+pub static NAMED_ENTRY: Layout = (
     Some("dynamic"),
     "% % %  %\n",
     &[
@@ -618,7 +626,7 @@ pub const NAMED_ENTRY: Layout = (
 );
 
 // The names of flags without `DF_`.
-pub const FLAGS_ENTRY: Layout = (
+pub static FLAGS_ENTRY: Layout = (
     Some("dynamic"),
     "% % %%\n",
     &[
@@ -630,7 +638,7 @@ pub const FLAGS_ENTRY: Layout = (
 );
 
 // The names of flags without `DF_1_`.
-pub const FLAGS_1_ENTRY: Layout = (
+pub static FLAGS_1_ENTRY: Layout = (
     Some("dynamic"),
     "% % %%\n",
     &[
@@ -641,20 +649,20 @@ pub const FLAGS_1_ENTRY: Layout = (
     ],
 );
 
-pub const NEEDED: Layout = (Some("dynamic"), "needed  %\n", &[Column(5, Text)]);
+pub static NEEDED: Layout = (Some("dynamic"), "needed  %\n", &[Column(5, Text)]);
 
-pub const SONAME: Layout = (Some("dynamic"), "soname  %\n", &[Column(5, Text)]);
+pub static SONAME: Layout = (Some("dynamic"), "soname  %\n", &[Column(5, Text)]);
 
-pub const RPATH: Layout = (Some("dynamic"), "rpath   %\n", &[Column(5, Text)]);
+pub static RPATH: Layout = (Some("dynamic"), "rpath   %\n", &[Column(5, Text)]);
 
-pub const RUNPATH: Layout = (Some("dynamic"), "runpath %\n", &[Column(5, Text)]);
+pub static RUNPATH: Layout = (Some("dynamic"), "runpath %\n", &[Column(5, Text)]);
 
 const HEADING_COLUMNS: [Column; 2] = [Column(0, Decimal(0)), Column(1, Text)];
 
 // Of the same heading with the number of rows under it.
 const COUNTED_COLUMNS: [Column; 3] = [Column(0, Decimal(0)), Column(1, Text), Column(2, Count)];
 
-pub const RELOCATIONS_HEADING: Layout = (
+pub static RELOCATIONS_HEADING: Layout = (
     None,
     "Relocations of section % (%)%:\n    nr offset  % type                   symbol, addend\n",
     &[
@@ -665,7 +673,7 @@ pub const RELOCATIONS_HEADING: Layout = (
     ],
 );
 
-pub const RELOCATION: Layout = (
+pub static RELOCATION: Layout = (
     Some("relocation"),
     "% % % %%%\n",
     &[
@@ -678,7 +686,7 @@ pub const RELOCATION: Layout = (
     ],
 );
 
-pub const MIPS_RELOCATION: Layout = (
+pub static MIPS_RELOCATION: Layout = (
     Some("relocation"),
     "% % %/%/% %%%\n",
     &[
@@ -693,29 +701,29 @@ pub const MIPS_RELOCATION: Layout = (
     ],
 );
 
-pub const RELATIVE: Layout = (
+pub static RELATIVE: Layout = (
     Some("relative_relocation"),
     "       %\n",
     &[Column(1, Address)],
 );
 
-pub const RELOCATION_TABLE_HEADING: Layout = (
+pub static RELOCATION_TABLE_HEADING: Layout = (
     None,
     "Relocations of %%:\n    nr offset  % type                   symbol, addend\n",
     &[Column(0, Text), Column(1, Count), Column(0, Room)],
 );
 
-pub const SECTION_NOTES_HEADING: Layout = (None, "Notes of section % (%)%:\n", &COUNTED_COLUMNS);
+pub static SECTION_NOTES_HEADING: Layout = (None, "Notes of section % (%)%:\n", &COUNTED_COLUMNS);
 
-pub const SEGMENT_NOTES_HEADING: Layout = (
+pub static SEGMENT_NOTES_HEADING: Layout = (
     None,
     "Notes of segment %%:\n",
     &[Column(0, Decimal(0)), Column(1, Count)],
 );
 
-pub const BUILD_ID_NOTE: Layout = (Some("note"), "  GNU build id  %\n", &[Column(5, Pairs)]);
+pub static BUILD_ID_NOTE: Layout = (Some("note"), "  GNU build id  %\n", &[Column(5, Pairs)]);
 
-pub const ABI_TAG_NOTE: Layout = (
+pub static ABI_TAG_NOTE: Layout = (
     Some("note"),
     "  GNU ABI tag   % %.%.%\n",
     &[
@@ -726,7 +734,7 @@ pub const ABI_TAG_NOTE: Layout = (
     ],
 );
 
-pub const NOTE: Layout = (
+pub static NOTE: Layout = (
     Some("note"),
     "  % %  %\n",
     &[
@@ -737,7 +745,7 @@ pub const NOTE: Layout = (
 );
 
 // The names of properties without `GNU_PROPERTY_`.
-pub const NUMBER_PROPERTY: Layout = (
+pub static NUMBER_PROPERTY: Layout = (
     Some("note_property"),
     "    % %%\n",
     &[
@@ -747,15 +755,15 @@ pub const NUMBER_PROPERTY: Layout = (
     ],
 );
 
-pub const PROPERTY: Layout = (
+pub static PROPERTY: Layout = (
     Some("note_property"),
     "    %, % bytes\n",
     &[Column(3, Name(13, 0, 2)), Column(4, Decimal(0))],
 );
 
-pub const NOTE_TEXT: Layout = (Some("note_text"), "    %\n", &[Column(2, Text)]);
+pub static NOTE_TEXT: Layout = (Some("note_text"), "    %\n", &[Column(2, Text)]);
 
-pub const PROBE: Layout = (
+pub static PROBE: Layout = (
     Some("note_probe"),
     "    %:%  at % of %, semaphore %  %\n",
     &[
@@ -768,13 +776,13 @@ pub const PROBE: Layout = (
     ],
 );
 
-pub const MAPPED_FILES: Layout = (
+pub static MAPPED_FILES: Layout = (
     Some("note_files"),
     "    mapped files: %, page size %\n",
     &[Column(2, Decimal(0)), Column(3, Decimal(0))],
 );
 
-pub const MAPPED_FILE: Layout = (
+pub static MAPPED_FILE: Layout = (
     Some("note_file"),
     "    %-% page %  %\n",
     &[
@@ -785,45 +793,53 @@ pub const MAPPED_FILE: Layout = (
     ],
 );
 
-pub const PROCESS_STATUS: Layout = (
+pub static PROCESS_STATUS: Layout = (
     Some("note_prstatus"),
     "    process %, signal %\n",
     &[Column(3, Decimal(0)), Column(2, Decimal(0))],
 );
 
-pub const PROCESS_INFO: Layout = (
+pub static PROCESS_INFO: Layout = (
     Some("note_prpsinfo"),
     "    program %, arguments %\n",
     &[Column(2, Text), Column(3, Text)],
 );
 
-pub const SIGNAL_INFO: Layout = (
+pub static SIGNAL_INFO: Layout = (
     Some("note_siginfo"),
     "    signal %, code %, error %\n",
     &[Column(2, Signed), Column(3, Signed), Column(4, Signed)],
 );
 
 // The names of entries without `AT_`.
-pub const AUXILIARY_ENTRY: Layout = (
+pub static AUXILIARY_ENTRY: Layout = (
     Some("note_auxv"),
     "    % %\n",
     &[Column(3, Name(3, 17, 2)), Column(4, Hexadecimal)],
 );
 
-pub const DEFINED_HEADING: Layout = (
+pub static DEFINED_HEADING: Layout = (
     None,
     "Versions defined, of section % (%)%:\n",
     &COUNTED_COLUMNS,
 );
 
-pub const NEEDED_HEADING: Layout = (
+pub static NEEDED_HEADING: Layout = (
     None,
-    "Versions needed, of section % (%)%:\n",
+    "Files with needed versions, of section % (%)%:\n",
     &COUNTED_COLUMNS,
 );
 
+pub static DEFINED_TABLE_HEADING: Layout = (None, "Versions defined, of DT_VERDEF:\n", &[]);
+
+pub static NEEDED_TABLE_HEADING: Layout = (
+    None,
+    "Files with needed versions, of DT_VERNEED:\n",
+    &[],
+);
+
 // The names of flags without `VER_FLG_`.
-pub const VERDEF: Layout = (
+pub static VERDEF: Layout = (
     Some("verdef"),
     "  % flags %% ",
     &[
@@ -833,13 +849,13 @@ pub const VERDEF: Layout = (
     ],
 );
 
-pub const VERDAUX: Layout = (Some("verdaux"), " %", &[Column(3, Text)]);
+pub static VERDAUX: Layout = (Some("verdaux"), " %", &[Column(3, Text)]);
 
-pub const VERDEF_END: Layout = (None, "\n", &[]);
+pub static VERDEF_END: Layout = (None, "\n", &[]);
 
-pub const VERNEED: Layout = (Some("verneed"), "  of %\n", &[Column(3, Text)]);
+pub static VERNEED: Layout = (Some("verneed"), "  of %\n", &[Column(3, Text)]);
 
-pub const VERNAUX: Layout = (
+pub static VERNAUX: Layout = (
     Some("vernaux"),
     "  % flags %%  %\n",
     &[
@@ -850,7 +866,7 @@ pub const VERNAUX: Layout = (
     ],
 );
 
-pub const CHAINS_HEADING: Layout = (
+pub static CHAINS_HEADING: Layout = (
     None,
     "Buckets of hash section % (%) by the length of their chains, % in all:\n  length   buckets   share  coverage\n",
     &[
@@ -860,7 +876,13 @@ pub const CHAINS_HEADING: Layout = (
     ],
 );
 
-pub const CHAIN_LENGTH: Layout = (
+pub static CHAINS_TABLE_HEADING: Layout = (
+    None,
+    "Buckets of % by the length of their chains, % in all:\n  length   buckets   share  coverage\n",
+    &[Column(0, Text), Column(1, Decimal(0))],
+);
+
+pub static CHAIN_LENGTH: Layout = (
     Some("chain_length"),
     "% %  %    %\n",
     &[
@@ -871,44 +893,44 @@ pub const CHAIN_LENGTH: Layout = (
     ],
 );
 
-pub const ATTRIBUTES_HEADING: Layout = (
+pub static ATTRIBUTES_HEADING: Layout = (
     None,
     "Build attributes of section % (%):\n",
     &HEADING_COLUMNS,
 );
 
 // The names of tags without `Tag_`.
-pub const ATTRIBUTE_SCOPE: Layout = (
+pub static ATTRIBUTE_SCOPE: Layout = (
     Some("attribute_scope"),
     "  % attributes of %\n",
     &[Column(3, Name(4, 0, 2)), Column(1, Text)],
 );
 
-pub const ATTRIBUTE_TARGET: Layout = (
+pub static ATTRIBUTE_TARGET: Layout = (
     Some("attribute_target"),
     "    for %\n",
     &[Column(4, Decimal(0))],
 );
 
-pub const NUMBER_ATTRIBUTE: Layout = (
+pub static NUMBER_ATTRIBUTE: Layout = (
     Some("attribute"),
     "    %  %\n",
     &[Column(5, Name(4, 27, 4)), Column(6, Decimal(0))],
 );
 
-pub const NAMED_ATTRIBUTE: Layout = (
+pub static NAMED_ATTRIBUTE: Layout = (
     Some("attribute"),
     "    %  %\n",
     &[Column(5, Name(4, 27, 4)), Column(7, Name(0, 0, 6))],
 );
 
-pub const TEXT_ATTRIBUTE: Layout = (
+pub static TEXT_ATTRIBUTE: Layout = (
     Some("attribute"),
     "    %  %\n",
     &[Column(5, Name(4, 27, 4)), Column(8, Text)],
 );
 
-pub const PAIR_ATTRIBUTE: Layout = (
+pub static PAIR_ATTRIBUTE: Layout = (
     Some("attribute"),
     "    %  %, %\n",
     &[
@@ -918,35 +940,35 @@ pub const PAIR_ATTRIBUTE: Layout = (
     ],
 );
 
-pub const VENDOR_ATTRIBUTES: Layout = (
+pub static VENDOR_ATTRIBUTES: Layout = (
     Some("vendor_attributes"),
     "  attributes of %, of a form of its own: %\n",
     &[Column(1, Text), Column(2, Front(32))],
 );
 
-pub const DEBUG_LINK_HEADING: Layout = (None, "Debug link of section % (%):\n", &HEADING_COLUMNS);
+pub static DEBUG_LINK_HEADING: Layout = (None, "Debug link of section % (%):\n", &HEADING_COLUMNS);
 
-pub const DEBUG_LINK: Layout = (
+pub static DEBUG_LINK: Layout = (
     Some("debug_link"),
     "  %  CRC 0x%\n",
     &[Column(1, Text), Column(2, Digits8)],
 );
 
-pub const DEBUG_ALT_LINK: Layout = (
+pub static DEBUG_ALT_LINK: Layout = (
     Some("debug_alt_link"),
     "  %  build id %\n",
     &[Column(1, Text), Column(2, Pairs)],
 );
 
-pub const BYTES_HEADING: Layout = (None, "Bytes of section % (%):\n", &HEADING_COLUMNS);
+pub static BYTES_HEADING: Layout = (None, "Bytes of section % (%):\n", &HEADING_COLUMNS);
 
-pub const STRINGS_HEADING: Layout = (None, "Strings of section % (%):\n", &HEADING_COLUMNS);
+pub static STRINGS_HEADING: Layout = (None, "Strings of section % (%):\n", &HEADING_COLUMNS);
 
-pub const NO_BYTES: Layout = (None, "  none in the file\n", &[]);
+pub static NO_BYTES: Layout = (None, "  none in the file\n", &[]);
 
-pub const EMPTY_SECTION: Layout = (None, "  none, the section is empty\n", &[]);
+pub static EMPTY_SECTION: Layout = (None, "  none, the section is empty\n", &[]);
 
-pub const COMPRESSION: Layout = (
+pub static COMPRESSION: Layout = (
     Some("compression"),
     "  compressed: %, % bytes, alignment %\n",
     &[
@@ -956,21 +978,21 @@ pub const COMPRESSION: Layout = (
     ],
 );
 
-pub const SECTION_DATA: Layout = (Some("section_data"), "%", &[Column(2, Dump(1))]);
+pub static SECTION_DATA: Layout = (Some("section_data"), "%", &[Column(2, Dump(1))]);
 
-pub const SECTION_STRING: Layout = (
+pub static SECTION_STRING: Layout = (
     Some("section_string"),
     "  [%]  %\n",
     &[Column(1, Digits8), Column(2, Text)],
 );
 
-pub const MAPPINGS_HEADING: Layout = (
+pub static MAPPINGS_HEADING: Layout = (
     None,
     "address   % memory     bytes of the file      flags\n",
     &[Column(0, Room)],
 );
 
-pub const MAPPING: Layout = (
+pub static MAPPING: Layout = (
     Some("mapping"),
     "0x% 0x% 0x% at 0x% %\n",
     &[
@@ -982,7 +1004,7 @@ pub const MAPPING: Layout = (
     ],
 );
 
-pub const BUILD_ID: Layout = (Some("build_id"), "%\n", &[Column(0, Pairs)]);
+pub static BUILD_ID: Layout = (Some("build_id"), "%\n", &[Column(0, Pairs)]);
 
 const ADDRESS_COLUMNS: [Column; 3] = [
     Column(0, Hexadecimal),
@@ -990,15 +1012,15 @@ const ADDRESS_COLUMNS: [Column; 3] = [
     Column(3, Hexadecimal),
 ];
 
-pub const INSIDE: Layout = (Some("address"), "% %+%\n", &ADDRESS_COLUMNS);
+pub static INSIDE: Layout = (Some("address"), "% %+%\n", &ADDRESS_COLUMNS);
 
-pub const PAST_END: Layout = (Some("address"), "% %+% past its end\n", &ADDRESS_COLUMNS);
+pub static PAST_END: Layout = (Some("address"), "% %+% past its end\n", &ADDRESS_COLUMNS);
 
-pub const SOUND_FILE: Layout = (None, "%: sound\n", &[Column(0, Text)]);
+pub static SOUND_FILE: Layout = (None, "%: sound\n", &[Column(0, Text)]);
 
-pub const VERDICT: Layout = (Some("check"), "", &[]);
+pub static VERDICT: Layout = (Some("check"), "", &[]);
 
-pub const HARDENED_FILE: Layout = (
+pub static HARDENED_FILE: Layout = (
     None,
     "%: %  relro %  %  stack %  wx %  %  fortified %  fortifiable %  rpath %  runpath %%%%\n",
     &[
@@ -1019,17 +1041,17 @@ pub const HARDENED_FILE: Layout = (
     ],
 );
 
-pub const HARDENING: Layout = (Some("hardening"), "", &[]);
+pub static HARDENING: Layout = (Some("hardening"), "", &[]);
 
-pub const PROGRAM: Layout = (Some("object"), "%%\n", &[Column(0, Depth), Column(2, Text)]);
+pub static PROGRAM: Layout = (Some("object"), "%%\n", &[Column(0, Depth), Column(2, Text)]);
 
-pub const LIBRARY: Layout = (
+pub static LIBRARY: Layout = (
     Some("object"),
     "%% => %\n",
     &[Column(0, Depth), Column(1, Text), Column(2, Text)],
 );
 
-pub const MISSING_LIBRARY: Layout = (
+pub static MISSING_LIBRARY: Layout = (
     Some("object"),
     "%% => not found\n",
     &[Column(0, Depth), Column(1, Text)],
@@ -1042,9 +1064,9 @@ const BOUND_COLUMNS: [Column; 4] = [
     Column(8, Target(2, 3, 9)),
 ];
 
-pub const BOUND: Layout = (Some("binding"), "%% => %%\n", &BOUND_COLUMNS);
+pub static BOUND: Layout = (Some("binding"), "%% => %%\n", &BOUND_COLUMNS);
 
-pub const BOUND_ADDRESS: Layout = (Some("binding"), "%% => %% (address)\n", &BOUND_COLUMNS);
+pub static BOUND_ADDRESS: Layout = (Some("binding"), "%% => %% (address)\n", &BOUND_COLUMNS);
 
 const UNBOUND_COLUMNS: [Column; 3] = [
     Column(2, Text),
@@ -1052,8 +1074,8 @@ const UNBOUND_COLUMNS: [Column; 3] = [
     Column(5, Name(0, 0, 5)),
 ];
 
-pub const UNBOUND: Layout = (Some("binding"), "%% => %\n", &UNBOUND_COLUMNS);
+pub static UNBOUND: Layout = (Some("binding"), "%% => %\n", &UNBOUND_COLUMNS);
 
-pub const UNBOUND_ADDRESS: Layout = (Some("binding"), "%% => % (address)\n", &UNBOUND_COLUMNS);
+pub static UNBOUND_ADDRESS: Layout = (Some("binding"), "%% => % (address)\n", &UNBOUND_COLUMNS);
 
-pub const SAME_ADDRESS: Layout = (Some("binding"), "", &[]);
+pub static SAME_ADDRESS: Layout = (Some("binding"), "", &[]);

@@ -1,5 +1,5 @@
 //! Rows for people: a text for each record, by the columns of its kind.
-ghost use Rattle.std.specs.Prelude.{◌≡◌, ◌+◌, ◌-◌, ◌*◌, ◌/◌, ◌<◌, ◌≤◌, ◌&&◌, OnOk, drop, length, replicate, take};
+ghost use Rattle.std.specs.Prelude.{◌≡◌, ◌+◌, ◌-◌, ◌*◌, ◌/◌, ◌<◌, ◌≤◌, ◌&&◌, OnOk, length, replicate};
 ghost use Rattle.std.specs.Fmt.{decimal};
 ghost use Rattle.std.specs.Io.KnownBytes.{Appends};
 ghost use Rattle.std.specs.List.{after_first, before_first, flat_map};
@@ -16,7 +16,7 @@ ghost use Rattle.nugwier_writing.specs.Text.{other_flags};
 ghost use Rattle.nugwier_writing.specs.Text.{row_text, section_letter, segment_flags, segment_letter, shown, shown_addend};
 ghost use Rattle.nugwier_writing.specs.Text.{shown_character, shown_count, shown_decimal, shown_flag, shown_flags, shown_index, shown_name, shown_nameless};
 ghost use Rattle.nugwier_writing.specs.Text.{shown_front, shown_number, shown_order, shown_padded, shown_percent};
-ghost use Rattle.nugwier_writing.specs.Text.{bold_if, framed, percent, shown_signed, shown_text, signed_hex, tenths};
+ghost use Rattle.nugwier_writing.specs.Text.{bold_if, colored, framed, is_text, percent, shown_signed, shown_text, signed_hex, tenths};
 ghost use Rattle.nugwier_writing.specs.Text.{same_text, shown_target, shown_version, text_in, wide};
 
 use crate::escape::add_shown;
@@ -101,8 +101,8 @@ pub struct Column(pub usize, pub Shown);
 pub struct Style {
     /// Whether long bytes are shown as a whole.
     pub is_wide: bool,
-    /// Whether headings are bold.
-    pub is_bold: bool,
+    /// Whether headings are bold, and texts of the file in colour.
+    pub is_colored: bool,
 }
 
 /// What the cells of a row depend on beside the record.
@@ -110,6 +110,8 @@ pub struct Style {
 pub struct Look {
     /// Whether long bytes are shown as a whole.
     pub is_wide: bool,
+    /// Whether texts of the file are in colour.
+    pub is_colored: bool,
     /// The class of the file, which gives the digits of its addresses.
     pub class: Class,
 }
@@ -125,15 +127,16 @@ pub fn write_row<W: Write>(
     out: &mut W,
 ) -> io::Result<()>
     ensures { OnOk result (Appends (W.contents out.old) (W.contents out.new)
-        (bold_if (style.is_bold && is_heading)
+        (bold_if (style.is_colored && is_heading)
         (row_text (look_of style class) (members_said members.now) row.now columns.now))) }
 {
     let look = Look {
         is_wide: style.is_wide,
+        is_colored: style.is_colored,
         class,
     };
     let mut lines = LineBuffer::empty();
-    if style.is_bold && is_heading {
+    if style.is_colored && is_heading {
         add_bold(look, row, columns, members, &mut lines, out);
     } else {
         add_cells(look, row, columns, members, &mut lines, out);
@@ -202,7 +205,40 @@ fn add_cell<W: Write>(
         (cell look (members_said members.now) column) }
 {
     let value = value_at(members, column.0);
-    add_value(look, column.1, value, members, lines, out);
+    if look.is_colored && is_text(column.1) {
+        add_colored(look, column.1, value, members, lines, out);
+    } else {
+        add_value(look, column.1, value, members, lines, out);
+    }
+}
+
+// Whether a column shows a text of the file.
+fn is_text(form: Shown) -> bool
+    ensures { result ≡ is_text form }
+{
+    match form {
+        Shown::Text => true,
+        Shown::Padded(_) => true,
+        _ => false,
+    }
+}
+
+// Adds a cell between the escape sequences that begin cyan text and end a colour (ECMA-48, SGR).
+#[tactic(auto, unfolding(crate::specs::Text::colored))]
+fn add_colored<W: Write>(
+    look: Look,
+    form: Shown,
+    value: Value<'_>,
+    members: &[Member<'_>],
+    lines: &mut LineBuffer,
+    out: &mut W,
+)
+    ensures { Adds (W.contents out.old) lines.old (W.contents out.new) lines.new
+        (colored (shown look form (content_of value.entry) (members_said members.now))) }
+{
+    lines.text("\x1b[36m", out);
+    add_value(look, form, value, members, lines, out);
+    lines.text("\x1b[39m", out);
 }
 
 // The value of the member at a place.

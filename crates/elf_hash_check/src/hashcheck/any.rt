@@ -83,7 +83,7 @@ impl<'data, E: EndianParse> HashSection<CheckedSysvHash<'data, E>, CheckedGnuHas
     }
 
     /// Returns whether the section's filter tells that no indexed symbol has a name with this hash
-    /// (`elf::hash::gnu_hash`), of which most can be told so. Who looks for one name in many files takes its hash once.
+    /// (`elf::hash::gnu_hash`). It tells so of most such names. Who looks for one name in many files takes its hash once.
     /// A SysV section has no filter, and excludes none.
     ///
     /// ```rust

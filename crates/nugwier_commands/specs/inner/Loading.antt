@@ -25,7 +25,11 @@ use Rattle.nugwier_words.specs.declared.words.WordError.TheVariants.{Memory}
 use Rattle.nugwier_report.specs.Formats.{front}
 use Rattle.nugwier_report.specs.Said.{Said, said_if, whole, wrong}
 use Rattle.nugwier_writing.specs.declared.kind.Kind.{Kind}
+use Rattle.nugwier_programs.specs.Bindings.{IsBoundSaid}
+use Rattle.nugwier_programs.specs.Tree.{IsNamedSaid, Search}
 use Rattle.nugwier_words.specs.Words.{Task}
+use Rattle.nugwier_words.specs.declared.words.Command.{Command}
+use Rattle.nugwier_words.specs.declared.words.Command.TheVariants.{Bindings}
 
 -- that section headers cannot be read, if this is why
 abbrev pub unread_said : Option LostHeaders → List Said
@@ -94,6 +98,11 @@ IsFrontOf content start = (bytes : List ℕ) × (content ≡ Some bytes) × (sta
 abbrev pub IsNamed : List ℕ → Option (List ℕ) → Found → Type 0
 IsNamed path content program =
     (bytes : List ℕ) × (content ≡ Some bytes) × (ok_map without_bytes (file_of path bytes) ≡ Ok program)
+
+-- what a command says of a program that was opened by its names alone
+abbrev pub IsNamedProgramSaid : Known → Command → Search → Found → List Said → Type 0
+IsNamedProgramSaid known Bindings search program said = IsBoundSaid known search program said
+IsNamedProgramSaid known other search program said = IsNamedSaid known search program said
 
 -- a run goes on as its last step ended
 abbrev pub IsOutcomeOf : Result Summary Stop → Outcome → Type 0

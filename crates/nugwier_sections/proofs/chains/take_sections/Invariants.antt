@@ -1,11 +1,13 @@
-use Rattle.std.proofs.Common.{◌≡◌, ◌++◌, map}
+use Rattle.std.proofs.Common.{◌≡◌, [], ◌∷◌, ◌++◌, map}
 use Rattle.std.specs.List.{flat_map}
 use Rattle.std.specs.Vec.Iter.{into_iter_items}
-use Rattle.nugwier_sections.specs.Chains.{chains_of, said_of_chains}
+use Rattle.elf_abi.specs.declared.abi.TheConstants.{SHT_GNU_HASH, SHT_HASH}
+use Rattle.nugwier_sections.specs.Chains.{chains_of}
+use Rattle.nugwier_taking.specs.TypedSections.{sections_of}
 use Rattle.nugwier_taking.specs.Whole.{file_of}
 use Rattle.nugwier_sections.specs.inner.Chains.{part_said}
 use Rattle.nugwier_taking.specs.inner.TypedSections.{section_view}
-use Rattle.nugwier_sections.proofs.chains.take_chains.Given as goal
+use Rattle.nugwier_sections.proofs.chains.take_sections.Given as goal
 
 -- what was taken so far, and then the hash sections that are left, is the whole
 abbrev pub invariant-loop-section : goal.invariant-loop-section
@@ -13,4 +15,4 @@ invariant-loop-section g l =
     let whole = file_of (g.R.Headers.file l.file) (g.R.ListedFile.bytes l.file) in
     flat_map part_said l.parts.items
     ++ flat_map (chains_of whole) (map section_view (into_iter_items l.section-iterator))
-    ≡ said_of_chains whole
+    ≡ flat_map (chains_of whole) (sections_of whole (SHT_HASH ∷ SHT_GNU_HASH ∷ []))
