@@ -464,7 +464,7 @@ fn open_program<F: Files>(alloc: Global, path: &str, files: &F) -> Option<Loaded
     LoadedFile::open_names(alloc, path.as_bytes(), source)
 }
 
-// The same of a program that is read whole.
+// Says what is asked for of a program at a path, which is read whole.
 fn run_whole_program<F: Files, W: Write, V: Write>(
     alloc: Global,
     target: Target<'_>,

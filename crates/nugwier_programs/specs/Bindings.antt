@@ -256,7 +256,7 @@ IsBoundSaid known search program said =
 abbrev pub IsAtPath : Known → Found → Type 0
 IsAtPath known program = IsSomeAnd known (λ files. files.contents program.path ≡ Some program.bytes)
 
--- a program is kept with its bytes; or without them, if they are at its path, where they are read again
+-- a program is kept with its bytes; or without them, if they are at its path: then they are read from there
 abbrev pub IsKept : Known → Found → Found → Type 0
 IsKept known program kept = (kept ≡ program) ⊎ ((kept ≡ without_bytes program) × IsAtPath known program)
 
