@@ -36,7 +36,7 @@ complete -c nugwier -n "__fish_seen_subcommand_from list" -s k -d "links to debu
 complete -c nugwier -n "__fish_seen_subcommand_from list" -s a -d all
 complete -c nugwier -n "__fish_seen_subcommand_from list" -s x -x -d "bytes of a section"
 complete -c nugwier -n "__fish_seen_subcommand_from list" -s p -x -d "strings of a section"
-complete -c nugwier -n "__fish_seen_subcommand_from list" -s W -l wide -d "all bytes of notes"
+complete -c nugwier -n "__fish_seen_subcommand_from list" -s W -l wide -d "wide rows"
 complete -c nugwier -n "__fish_seen_subcommand_from symbols" -s D -l dynamic -d "those for dynamic linking"
 complete -c nugwier -n "__fish_seen_subcommand_from symbols" -s g -l extern-only -d "those that other files can see"
 complete -c nugwier -n "__fish_seen_subcommand_from symbols" -s u -l undefined-only -d "undefined ones"

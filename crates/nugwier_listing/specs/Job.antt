@@ -5,7 +5,7 @@ use Rattle.elf.specs.ObjectFile.{ObjectFile}
 use Rattle.elf_records.specs.declared.file.FileHeader.{FileHeader}
 use Rattle.nugwier_symbols.specs.Addresses.{AreAddressesSaid}
 use Rattle.nugwier_sections.specs.Attributes.{said_of_attributes}
-use Rattle.nugwier_sections.specs.Chains.{said_of_chains}
+use Rattle.nugwier_linking.specs.Chains.{said_of_chains}
 use Rattle.nugwier_sections.specs.Check.{IsCheckSaid}
 use Rattle.nugwier_sections.specs.Contents.{said_of_contents}
 use Rattle.nugwier_sections.specs.DebugLinks.{said_of_debug_links}
@@ -20,7 +20,7 @@ use Rattle.nugwier_symbols.specs.Relocations.{machine_of, said_of_relocations}
 use Rattle.nugwier_sections.specs.Sections.{said_of_sections}
 use Rattle.nugwier_sections.specs.Segments.{said_of_segments}
 use Rattle.nugwier_symbols.specs.Symbols.{AreExportsSaid, AreSymbolsSaid, said_of_dynamic_symbols, said_of_symbols}
-use Rattle.nugwier_sections.specs.VersionLists.{said_of_version_lists}
+use Rattle.nugwier_linking.specs.VersionLists.{said_of_version_lists}
 use Rattle.nugwier_listing.specs.declared.list.ListedPart.{ListedPart}
 use Rattle.nugwier_listing.specs.declared.list.ListedPart.TheVariants as part
 use Rattle.nugwier_report.specs.Said.{Said}

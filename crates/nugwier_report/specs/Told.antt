@@ -28,7 +28,7 @@ object_if path None members = []
 abbrev pub text_of : Style → Class → Kind → Members → List ℕ
 text_of style class kind members =
     bold_if (style.is_colored && is_heading kind)
-    (row_text (look_of style class) members (layout_of kind).row (layout_of kind).columns)
+    (row_text (look_of style class) members (layout_of kind).columns (layout_of kind).end)
 
 -- in a file of this class
 abbrev pub record_line : Format → List ℕ → Class → Kind → Members → List ℕ

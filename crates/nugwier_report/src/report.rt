@@ -239,8 +239,8 @@ fn write_text<W: Write>(
     ensures { OnOk result (Appends (W.contents out.old) (W.contents out.new)
         (text_of style class kind (members_said members.now))) }
 {
-    let (_, row, columns) = kind.layout();
-    write_row(style, class, kind.is_heading(), row, columns, members, out)
+    let (_, columns, end) = kind.layout();
+    write_row(style, class, kind.is_heading(), columns, end, members, out)
 }
 
 // Writes an object, if the kind of the record has a name.

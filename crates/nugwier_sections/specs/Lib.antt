@@ -5,8 +5,6 @@ pub mod Sections
 pub mod Segments
 -- what was taken, as the definitions have it
 pub mod inner
--- the chains of hash sections
-pub mod Chains
 -- the build attributes
 pub mod Attributes
 -- the links to files with debug information
@@ -15,7 +13,5 @@ pub mod DebugLinks
 pub mod Check
 -- the notes
 pub mod Notes
--- the versions that are defined and needed
-pub mod VersionLists
 -- the content of sections
 pub mod Contents

@@ -2,15 +2,11 @@
 pub mod Sections
 -- the segments that were taken
 pub mod Segments
--- the chains of hash sections that were taken
-pub mod Chains
 -- the build attributes that were taken
 pub mod Attributes
 -- the links that were taken
 pub mod DebugLinks
 -- the notes that were taken
 pub mod Notes
--- the versions that were taken
-pub mod VersionLists
 -- the content that was taken
 pub mod Contents

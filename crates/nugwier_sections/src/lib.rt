@@ -1,9 +1,8 @@
-//! What is said of the sections and the segments of a file: their headers, notes, versions, hash chains, build attributes
-//! and links to debug information; of what a loader maps, and of whether the file is sound.
+//! What is said of the sections and the segments of a file: their headers, contents, notes, build attributes and links to
+//! debug information; of what a loader maps, and of whether the file is sound.
 #![tactic(auto)]
 
 pub mod attributes;
-pub mod chains;
 pub mod check;
 pub mod contents;
 pub mod debug_links;
@@ -12,4 +11,3 @@ pub mod notes;
 pub mod plan;
 pub mod sections;
 pub mod segments;
-pub mod version_lists;

@@ -64,7 +64,7 @@ Lists the parts of a file that the options name; without options, all of -a.
   -a           all of these
   -x SECTION   the bytes of all sections of a name, or of the section of a number
   -p SECTION   the strings of all sections of a name, or of the section of a number
-  -W           all bytes of a note, in place of the first 32 (or --wide)
+  -W           wide rows: all bytes of a note, and all digits of addresses (or --wide)
   --json       an object of JSON for each record, one a line, in place of lines for people
   -R           of a FILE that is a folder, the ELF files below it
 

@@ -4,3 +4,4 @@ pub mod JsonStrings
 pub mod JsonReading
 pub mod Characters
 pub mod Dump
+pub mod Spaces

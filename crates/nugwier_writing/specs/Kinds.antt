@@ -1,22 +1,29 @@
--- The kinds of records: the name of each in an object of JSON, and the text and the columns of its row for people.
-use Rattle.std.specs.Prelude.{ℕ, Bool, true, false, List, Option}
+-- The kinds of records: the name of each in an object of JSON, and the columns of its row for people.
+use Rattle.std.specs.Prelude.{ℕ, Bool, true, false, List, Option, map}
 use Rattle.std.specs.Option.{option_map}
 use Rattle.nugwier_writing.specs.declared.kind.Kind.{Kind}
 use Rattle.nugwier_writing.specs.declared.kind.Kind.TheVariants as kind
 use Rattle.nugwier_writing.specs.declared.kind.TheConstants as layout
-use Rattle.nugwier_writing.specs.declared.text.Column.{Column}
+use Rattle.nugwier_writing.specs.Text.{Column}
+use Rattle.nugwier_writing.specs.declared.text.Shown.{Shown}
 
 -- a kind without a name, as a heading, is for people alone
 pub record Layout : Type 0 where
   pub name : Option (List ℕ)
-  pub row : List ℕ
   pub columns : List Column
+  -- the text after the last column
+  pub end : List ℕ
 
-abbrev pub layout_view : Option (List ℕ) → List ℕ → List Column → Layout
-layout_view name row columns = record { name = name; row = row; columns = columns }
+abbrev pub layout_view : Option (List ℕ) → List Column → List ℕ → Layout
+layout_view name columns end = record { name = name; columns = columns; end = end }
 
-abbrev pub constant : Option (record { now : List ℕ }) × record { now : List ℕ } × record { now : List Column } → Layout
-constant l = layout_view (option_map (λ name. name.now) l.0) l.1.now l.2.now
+-- a column of the program
+abbrev pub column : (record { now : List ℕ }) × ℕ × Shown → Column
+column c = (c.0.now, c.1, c.2)
+
+abbrev pub constant : Option (record { now : List ℕ }) × record { now : List ((record { now : List ℕ }) × ℕ × Shown) } × record { now : List ℕ }
+    → Layout
+constant l = layout_view (option_map (λ name. name.now) l.0) (map column l.1.now) l.2.now
 
 abbrev pub layout_of : Kind → Layout
 layout_of kind.FileHeading = constant layout.FILE_HEADING

@@ -1,11 +1,12 @@
 -- Rows for people.
 use Rattle.std.specs.Prelude.{ℕ, ◌+◌, ◌-◌, ◌*◌, ◌/◌, ◌%◌, ◌==◌, ℤ, Bool, false, true, if◌then◌else◌, nat_lt, suc, pos}
 use Rattle.std.specs.Prelude.{negsuc, bit_and, List, [], ◌∷◌}
-use Rattle.std.specs.Prelude.{Option, Some, None, ◌&&◌, codes, drop, length, nat_le, replicate, take, zero}
+use Rattle.std.specs.Prelude.{Option, Some, None, ◌&&◌, codes, drop, length, map, nat_le, replicate, take, zero}
+use Rattle.std.specs.Borrow.{Bor}
 use Rattle.std.specs.Fmt.{decimal, digits, signed_decimal}
 use Rattle.std.specs.Hash.DefaultHasher.{wrapping_add}
 use Rattle.std.specs.Int.{div_ceil, to_be_bytes, w32, w64}
-use Rattle.std.specs.List.{after_first, before_first, flat_map, slice_get}
+use Rattle.std.specs.List.{flat_map, slice_get}
 use Rattle.std.specs.Str.{bytes_eq, encode_utf8_all}
 use Rattle.elf_abi.specs.Values.{elfdata2lsb}
 use Rattle.elf_abi.specs.declared.abi.TheConstants.{SHN_LORESERVE}
@@ -17,7 +18,6 @@ use Rattle.nugwier_writing.specs.Escape.{shown_bytes}
 use Rattle.nugwier_writing.specs.Members.{Content, Members, bytes, character, flag, flags, nothing, number, signed}
 use Rattle.nugwier_writing.specs.Members.{text}
 use Rattle.nugwier_writing.specs.Members.{word}
-use Rattle.nugwier_writing.specs.declared.text.Column.{Column}
 use Rattle.nugwier_writing.specs.declared.text.Look.{Look}
 use Rattle.nugwier_writing.specs.declared.text.Shown.{Shown}
 use Rattle.nugwier_writing.specs.declared.text.Shown.TheVariants as shows
@@ -89,6 +89,13 @@ shown_address class _ = codes "-"
 abbrev pub room_of : Class → List ℕ
 room_of ELF32 = []
 room_of ELF64 = codes "        "
+
+-- as an address in a wide row, else with no more zeros than 8 digits have
+abbrev pub shown_short_address : Look → Content → List ℕ
+shown_short_address look c = if look.is_wide then shown_address look.class c else shown_number shows.Digits8 c
+
+abbrev pub short_room_of : Look → List ℕ
+short_room_of look = if look.is_wide then room_of look.class else []
 
 -- in decimal
 abbrev pub shown_signed : Content → List ℕ
@@ -292,9 +299,16 @@ content_of_one None = nothing
 abbrev pub content_at : Members → ℕ → Content
 content_at members place = content_of_one (slice_get members place)
 
--- the byte in the text of a row (the percent sign) in whose place a column stands
-abbrev pub is_mark : ℕ → Bool
-is_mark b = b == 37
+-- the text before it, the place of the member that it shows, and how
+abbrev pub Column : Type 0
+Column = List ℕ × ℕ × Shown
+
+-- a column of the program
+abbrev pub column_of : Bor (List ℕ) × ℕ × Shown → Column
+column_of column = (column.0.now, column.1, column.2)
+
+abbrev pub columns_of : List (Bor (List ℕ) × ℕ × Shown) → List Column
+columns_of columns = map column_of columns
 
 -- what the cells depend on in a file of this class
 abbrev pub look_of : Style → Class → Look
@@ -318,6 +332,8 @@ module _ (look : Look) where
   abbrev pub shown : Shown → Content → Members → List ℕ
   shown shows.Address c members = shown_address look.class c
   shown shows.Room c members = room_of look.class
+  shown shows.ShortAddress c members = shown_short_address look c
+  shown shows.ShortRoom c members = short_room_of look
   shown (shows.Addend symbol) c members = shown_addend c (content_at members symbol)
   shown (shows.Name skipped width n) c members = shown_name skipped width c (content_at members n)
   shown (shows.Index width n) c members = shown_index width c (content_at members n)
@@ -339,14 +355,16 @@ module _ (look : Look) where
   -- the member of a column, which may be in colour
   abbrev pub cell : Members → Column → List ℕ
   cell members column =
-      let plain = shown column.1 (content_at members column.0) members in
-      if look.is_colored && is_text column.1 then colored plain else plain
+      let plain = shown column.2 (content_at members column.1) members in
+      if look.is_colored && is_text column.2 then colored plain else plain
 
-  -- the text of a row, with the columns in the places of its marks
-  abbrev pub row_text : Members → List ℕ → List Column → List ℕ
-  row_text members row [] = row
-  row_text members row (column ∷ columns) =
-      before_first is_mark row ⧺ cell members column ⧺ row_text members (after_first is_mark row) columns
+  -- after the text before it
+  abbrev pub labeled : Members → Column → List ℕ
+  labeled members column = column.0 ⧺ cell members column
+
+  -- the text of a row: its columns, and the text after them
+  abbrev pub row_text : Members → List Column → List ℕ → List ℕ
+  row_text members columns end = flat_map (labeled members) columns ⧺ end
 
 -- ---- bold text
 

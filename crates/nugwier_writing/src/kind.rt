@@ -1,14 +1,15 @@
-//! The kinds of records: the name of each in an object of JSON, and the text and the columns of its row for people. A
-//! column stands in the place of each `%` in the text.
+//! The kinds of records: the name of each in an object of JSON, and the columns of its row for people. Rows of files
+//! whose addresses have at most 32 bits are made for 80 characters a line.
 ghost use Rattle.std.specs.Prelude.{◌≡◌};
 ghost use Rattle.std.specs.Option.{option_copied};
 ghost use Rattle.nugwier_writing.specs.Kinds.{is_heading, layout_of, layout_view};
+ghost use Rattle.nugwier_writing.specs.Text.{columns_of};
 
 use crate::text::Column;
 use crate::text::Shown::{
     Addend, Address, Character, Count, Decimal, Depth, Digits, Digits8, Dump, Flags, Front,
     Hexadecimal, Index, Name, Order, Padded, Pairs, Percent, Room, SectionFlags, SegmentFlags,
-    Signed, Target, Text, Version,
+    ShortAddress, ShortRoom, Signed, Target, Text, Version,
 };
 
 /// A kind of record.
@@ -218,14 +219,14 @@ pub enum Kind {
     SameAddress,
 }
 
-/// The name of a kind in an object of JSON, and the text and the columns of its row for people. A kind without a name,
-/// as a heading, is for people alone.
-pub type Layout = (Option<&'static str>, &'static str, &'static [Column]);
+/// The name of a kind in an object of JSON, the columns of its row for people, and the text after the last one. A kind
+/// without a name, as a heading, is for people alone.
+pub type Layout = (Option<&'static str>, &'static [Column], &'static str);
 
 impl Kind {
     /// Returns the layout of records of the kind.
     pub fn layout(self) -> Layout
-        ensures { layout_view (option_copied result.0) result.1.now result.2.now ≡ layout_of self }
+        ensures { layout_view (option_copied result.0) (columns_of result.1.now) result.2.now ≡ layout_of self }
     {
         match self {
             Kind::FileHeading => FILE_HEADING,
@@ -351,731 +352,795 @@ impl Kind {
     }
 }
 
-pub static FILE_HEADING: Layout = (None, "%:\n", &[Column(0, Text)]);
+pub static FILE_HEADING: Layout = (None, &[("", 0, Text)], ":\n");
 
-pub static NEXT_FILE_HEADING: Layout = (None, "\n%:\n", &[Column(0, Text)]);
+pub static NEXT_FILE_HEADING: Layout = (None, &[("\n", 0, Text)], ":\n");
 
 pub static FILE_HEADER: Layout = (
     Some("file_header"),
-    "\
-File header:
-  class                ELF%
-  byte order           % (%)
-  ABI                  %, version %
-  type                 %
-  kind                 %
-  machine              %
-  version              %
-  entry point          %
-  flags                %%
-  header size          % bytes
-  program headers      % of % bytes, at offset %
-  section headers      % of % bytes, at offset %
-  names of sections    section %
-",
     &[
-        Column(1, Name(8, 0, 0)),
-        Column(3, Name(0, 0, 2)),
-        Column(2, Order),
-        Column(5, Name(0, 0, 4)),
-        Column(6, Decimal(0)),
-        Column(8, Name(0, 0, 7)),
-        Column(23, Name(0, 0, 23)),
-        Column(10, Name(0, 0, 9)),
-        Column(11, Decimal(0)),
-        Column(12, Hexadecimal),
-        Column(15, Hexadecimal),
-        Column(16, Flags(0)),
-        Column(17, Decimal(0)),
-        Column(19, Decimal(0)),
-        Column(18, Decimal(0)),
-        Column(13, Decimal(0)),
-        Column(21, Decimal(0)),
-        Column(20, Decimal(0)),
-        Column(14, Decimal(0)),
-        Column(22, Decimal(0)),
+        ("File header:\n  class                ELF", 1, Name(8, 0, 0)),
+        ("\n  byte order           ", 3, Name(0, 0, 2)),
+        (" (", 2, Order),
+        (")\n  ABI                  ", 5, Name(0, 0, 4)),
+        (", version ", 6, Decimal(0)),
+        ("\n  type                 ", 8, Name(0, 0, 7)),
+        ("\n  kind                 ", 23, Name(0, 0, 23)),
+        ("\n  machine              ", 10, Name(0, 0, 9)),
+        ("\n  version              ", 11, Decimal(0)),
+        ("\n  entry point          ", 12, Hexadecimal),
+        ("\n  flags                ", 15, Hexadecimal),
+        ("", 16, Flags(0)),
+        ("\n  header size          ", 17, Decimal(0)),
+        (" bytes\n  program headers      ", 19, Decimal(0)),
+        (" of ", 18, Decimal(0)),
+        (" bytes, at offset ", 13, Decimal(0)),
+        ("\n  section headers      ", 21, Decimal(0)),
+        (" of ", 20, Decimal(0)),
+        (" bytes, at offset ", 14, Decimal(0)),
+        ("\n  names of sections    section ", 22, Decimal(0)),
     ],
+    "\n",
 );
-
-// The number of rows under a heading.
-const COUNT_COLUMN: [Column; 1] = [Column(0, Decimal(0))];
-
-// Of the same heading above a column of addresses.
-const COUNT_AND_ROOM: [Column; 2] = [Column(0, Decimal(0)), Column(0, Room)];
 
 pub static SECTIONS_HEADING: Layout = (
     None,
-    "\
-Sections, % in all (flags: W write, A alloc, X execute, M merge, S strings, I info,
-L link order, O of a system, G group, T thread, C compressed, R retain, l large, E exclude):
-  nr name               type             address % offset   size       es link info align flags
-",
-    &COUNT_AND_ROOM,
+    &[
+        ("Sections, ", 0, Decimal(0)),
+        (
+            " in all (es: size of an entry, lk: link, inf: info, al: alignment;\n\
+            flags: W write, A alloc, X execute, M merge, S strings, I info, L link order,\n\
+            O of a system, G group, T thread, C compressed, R retain, l large, E exclude):\n \
+            nr name               type        address ",
+            0,
+            ShortRoom,
+        ),
+    ],
+    " offset   size     es lk inf al flags\n",
 );
 
 pub static SECTION: Layout = (
     Some("section_header"),
-    "% % % % % % % % % % %\n",
     &[
-        Column(0, Decimal(4)),
-        Column(2, Padded(18)),
-        Column(4, Name(4, 16, 3)),
-        Column(7, Address),
-        Column(8, Digits8),
-        Column(9, Digits8),
-        Column(13, Decimal(4)),
-        Column(10, Decimal(4)),
-        Column(11, Decimal(4)),
-        Column(12, Decimal(5)),
-        Column(5, SectionFlags),
+        ("", 0, Decimal(3)),
+        (" ", 2, Padded(18)),
+        (" ", 4, Name(4, 11, 3)),
+        (" ", 7, ShortAddress),
+        (" ", 8, Digits8),
+        (" ", 9, Digits8),
+        (" ", 13, Decimal(2)),
+        (" ", 10, Decimal(2)),
+        (" ", 11, Decimal(3)),
+        (" ", 12, Decimal(2)),
+        (" ", 5, SectionFlags),
     ],
+    "\n",
 );
 
 // The names of flags without `GRP_`.
 pub static GROUP: Layout = (
     Some("group"),
-    "Group of section % (%): signature %, flags %%\n",
     &[
-        Column(0, Decimal(0)),
-        Column(1, Text),
-        Column(4, Text),
-        Column(2, Hexadecimal),
-        Column(3, Flags(4)),
+        ("Group of section ", 0, Decimal(0)),
+        (" (", 1, Text),
+        ("): signature ", 4, Text),
+        (", flags ", 2, Hexadecimal),
+        ("", 3, Flags(4)),
     ],
+    "\n",
 );
 
 pub static GROUP_MEMBER: Layout = (
     Some("group_member"),
-    "% %\n",
-    &[Column(2, Decimal(6)), Column(3, Text)],
+    &[("", 2, Decimal(6)), (" ", 3, Text)],
+    "\n",
 );
 
 pub static SEGMENTS_HEADING: Layout = (
     None,
-    "Segments, % in all:\n  nr type             offset   address % physical% file size memory   flags align\n",
-    &[Column(0, Decimal(0)), Column(0, Room), Column(0, Room)],
+    &[
+        ("Segments, ", 0, Decimal(0)),
+        (
+            " in all:\n nr type           offset   address ",
+            0,
+            ShortRoom,
+        ),
+        (" physical", 0, ShortRoom),
+    ],
+    " file size memory   flags align\n",
 );
 
 pub static SEGMENT: Layout = (
     Some("program_header"),
-    "% % % % % %  % %   %\n",
     &[
-        Column(0, Decimal(4)),
-        Column(2, Name(3, 16, 1)),
-        Column(5, Digits8),
-        Column(6, Address),
-        Column(7, Address),
-        Column(8, Digits8),
-        Column(9, Digits8),
-        Column(3, SegmentFlags),
-        Column(10, Hexadecimal),
+        ("", 0, Decimal(3)),
+        (" ", 2, Name(3, 14, 1)),
+        (" ", 5, Digits8),
+        (" ", 6, ShortAddress),
+        (" ", 7, ShortAddress),
+        (" ", 8, Digits8),
+        ("  ", 9, Digits8),
+        (" ", 3, SegmentFlags),
+        ("   ", 10, Hexadecimal),
     ],
+    "\n",
 );
 
 pub static INTERPRETER: Layout = (
     Some("interpreter"),
-    "Interpreter of segment %: %\n",
-    &[Column(0, Decimal(0)), Column(1, Text)],
+    &[("Interpreter of segment ", 0, Decimal(0)), (": ", 1, Text)],
+    "\n",
 );
 
-pub static SEGMENT_SECTIONS_HEADING: Layout = (None, "Sections of the segments:\n", &[]);
+pub static SEGMENT_SECTIONS_HEADING: Layout = (None, &[], "Sections of the segments:\n");
 
-pub static SEGMENT_SECTIONS: Layout = (None, "%", &[Column(0, Decimal(4))]);
+pub static SEGMENT_SECTIONS: Layout = (None, &[("", 0, Decimal(4))], "");
 
-pub static SEGMENT_SECTION: Layout = (Some("segment_section"), " %", &[Column(2, Text)]);
+pub static SEGMENT_SECTION: Layout = (Some("segment_section"), &[(" ", 2, Text)], "");
 
-pub static SEGMENT_SECTIONS_END: Layout = (None, "\n", &[]);
+pub static SEGMENT_SECTIONS_END: Layout = (None, &[], "\n");
 
 pub static SYMBOLS_HEADING: Layout = (
     None,
-    "Symbols, % in all:\n    nr value   %     size type       binding    visibility section name\n",
-    &COUNT_AND_ROOM,
+    &[
+        ("Symbols, ", 0, Decimal(0)),
+        (" in all:\n    nr value   ", 0, ShortRoom),
+    ],
+    "   size type      binding    vis       section name\n",
 );
 
 pub static DYNAMIC_SYMBOLS_HEADING: Layout = (
     None,
-    "Symbols for dynamic linking, % in all:\n    nr value   %     size type       binding    visibility section name\n",
-    &COUNT_AND_ROOM,
+    &[
+        ("Symbols for dynamic linking, ", 0, Decimal(0)),
+        (" in all:\n    nr value   ", 0, ShortRoom),
+    ],
+    "   size type      binding    vis       section name\n",
 );
 
 pub static SYMBOL: Layout = (
     Some("symbol"),
-    "% % % % % % % %%\n",
     &[
-        Column(1, Decimal(6)),
-        Column(14, Address),
-        Column(15, Decimal(8)),
-        Column(8, Name(4, 10, 7)),
-        Column(6, Name(4, 10, 5)),
-        Column(11, Name(4, 10, 10)),
-        Column(13, Index(7, 12)),
-        Column(3, Text),
-        Column(16, Version(17)),
+        ("", 1, Decimal(6)),
+        (" ", 14, ShortAddress),
+        (" ", 15, Decimal(6)),
+        (" ", 8, Name(4, 9, 7)),
+        (" ", 6, Name(4, 10, 5)),
+        (" ", 11, Name(4, 9, 10)),
+        (" ", 13, Index(7, 12)),
+        (" ", 3, Text),
+        ("", 16, Version(17)),
     ],
+    "\n",
 );
 
 pub static VALUED_SYMBOL: Layout = (
     Some("symbol"),
-    "% % %%\n",
     &[
-        Column(14, Address),
-        Column(18, Character),
-        Column(3, Text),
-        Column(16, Version(17)),
+        ("", 14, Address),
+        (" ", 18, Character),
+        (" ", 3, Text),
+        ("", 16, Version(17)),
     ],
+    "\n",
 );
 
 pub static SIZED_SYMBOL: Layout = (
     Some("symbol"),
-    "% % %%\n",
     &[
-        Column(15, Address),
-        Column(18, Character),
-        Column(3, Text),
-        Column(16, Version(17)),
+        ("", 15, Address),
+        (" ", 18, Character),
+        (" ", 3, Text),
+        ("", 16, Version(17)),
     ],
+    "\n",
 );
 
 pub static VALUED_AND_SIZED_SYMBOL: Layout = (
     Some("symbol"),
-    "% % % %%\n",
     &[
-        Column(14, Address),
-        Column(15, Address),
-        Column(18, Character),
-        Column(3, Text),
-        Column(16, Version(17)),
+        ("", 14, Address),
+        (" ", 15, Address),
+        (" ", 18, Character),
+        (" ", 3, Text),
+        ("", 16, Version(17)),
     ],
+    "\n",
 );
 
 pub static UNDEFINED_SYMBOL: Layout = (
     Some("symbol"),
-    "        % % %%\n",
     &[
-        Column(0, Room),
-        Column(18, Character),
-        Column(3, Text),
-        Column(16, Version(17)),
+        ("        ", 0, Room),
+        (" ", 18, Character),
+        (" ", 3, Text),
+        ("", 16, Version(17)),
     ],
+    "\n",
 );
 
 pub static PORTABLE: Layout = (
     Some("symbol"),
-    "%% % %\n",
     &[
-        Column(3, Text),
-        Column(16, Version(17)),
-        Column(18, Character),
-        Column(14, Digits),
+        ("", 3, Text),
+        ("", 16, Version(17)),
+        (" ", 18, Character),
+        (" ", 14, Digits),
     ],
+    "\n",
 );
 
 pub static PORTABLE_SIZED: Layout = (
     Some("symbol"),
-    "%% % % %\n",
     &[
-        Column(3, Text),
-        Column(16, Version(17)),
-        Column(18, Character),
-        Column(14, Digits),
-        Column(15, Digits),
+        ("", 3, Text),
+        ("", 16, Version(17)),
+        (" ", 18, Character),
+        (" ", 14, Digits),
+        (" ", 15, Digits),
     ],
+    "\n",
 );
 
 pub static PORTABLE_UNDEFINED: Layout = (
     Some("symbol"),
-    "%% %\n",
-    &[
-        Column(3, Text),
-        Column(16, Version(17)),
-        Column(18, Character),
-    ],
+    &[("", 3, Text), ("", 16, Version(17)), (" ", 18, Character)],
+    "\n",
 );
 
 pub static EXPORT: Layout = (
     Some("symbol"),
-    "%%\n",
-    &[Column(3, Text), Column(16, Version(17))],
+    &[("", 3, Text), ("", 16, Version(17))],
+    "\n",
 );
 
 pub static ENTRIES_HEADING: Layout = (
     None,
-    "Dynamic entries, % in all:\n  nr tag               value, string\n",
-    &COUNT_COLUMN,
+    &[("Dynamic entries, ", 0, Decimal(0))],
+    " in all:\n  nr tag               value, string\n",
 );
 
 pub static ENTRY: Layout = (
     Some("dynamic"),
-    "% % %\n",
     &[
-        Column(0, Decimal(4)),
-        Column(2, Name(3, 17, 1)),
-        Column(3, Hexadecimal),
+        ("", 0, Decimal(4)),
+        (" ", 2, Name(3, 17, 1)),
+        (" ", 3, Hexadecimal),
     ],
+    "\n",
 );
 
 pub static NAMED_ENTRY: Layout = (
     Some("dynamic"),
-    "% % %  %\n",
     &[
-        Column(0, Decimal(4)),
-        Column(2, Name(3, 17, 1)),
-        Column(3, Hexadecimal),
-        Column(5, Text),
+        ("", 0, Decimal(4)),
+        (" ", 2, Name(3, 17, 1)),
+        (" ", 3, Hexadecimal),
+        ("  ", 5, Text),
     ],
+    "\n",
 );
 
 // The names of flags without `DF_`.
 pub static FLAGS_ENTRY: Layout = (
     Some("dynamic"),
-    "% % %%\n",
     &[
-        Column(0, Decimal(4)),
-        Column(2, Name(3, 17, 1)),
-        Column(3, Hexadecimal),
-        Column(4, Flags(3)),
+        ("", 0, Decimal(4)),
+        (" ", 2, Name(3, 17, 1)),
+        (" ", 3, Hexadecimal),
+        ("", 4, Flags(3)),
     ],
+    "\n",
 );
 
 // The names of flags without `DF_1_`.
 pub static FLAGS_1_ENTRY: Layout = (
     Some("dynamic"),
-    "% % %%\n",
     &[
-        Column(0, Decimal(4)),
-        Column(2, Name(3, 17, 1)),
-        Column(3, Hexadecimal),
-        Column(4, Flags(5)),
+        ("", 0, Decimal(4)),
+        (" ", 2, Name(3, 17, 1)),
+        (" ", 3, Hexadecimal),
+        ("", 4, Flags(5)),
     ],
+    "\n",
 );
 
-pub static NEEDED: Layout = (Some("dynamic"), "needed  %\n", &[Column(5, Text)]);
+pub static NEEDED: Layout = (Some("dynamic"), &[("needed  ", 5, Text)], "\n");
 
-pub static SONAME: Layout = (Some("dynamic"), "soname  %\n", &[Column(5, Text)]);
+pub static SONAME: Layout = (Some("dynamic"), &[("soname  ", 5, Text)], "\n");
 
-pub static RPATH: Layout = (Some("dynamic"), "rpath   %\n", &[Column(5, Text)]);
+pub static RPATH: Layout = (Some("dynamic"), &[("rpath   ", 5, Text)], "\n");
 
-pub static RUNPATH: Layout = (Some("dynamic"), "runpath %\n", &[Column(5, Text)]);
-
-const HEADING_COLUMNS: [Column; 2] = [Column(0, Decimal(0)), Column(1, Text)];
-
-// Of the same heading with the number of rows under it.
-const COUNTED_COLUMNS: [Column; 3] = [Column(0, Decimal(0)), Column(1, Text), Column(2, Count)];
+pub static RUNPATH: Layout = (Some("dynamic"), &[("runpath ", 5, Text)], "\n");
 
 pub static RELOCATIONS_HEADING: Layout = (
     None,
-    "Relocations of section % (%)%:\n    nr offset  % type                   symbol, addend\n",
     &[
-        Column(0, Decimal(0)),
-        Column(1, Text),
-        Column(2, Count),
-        Column(0, Room),
+        ("Relocations of section ", 0, Decimal(0)),
+        (" (", 1, Text),
+        (")", 2, Count),
+        (":\n    nr offset  ", 0, ShortRoom),
     ],
+    " type                   symbol, addend\n",
 );
 
 pub static RELOCATION: Layout = (
     Some("relocation"),
-    "% % % %%%\n",
     &[
-        Column(1, Decimal(6)),
-        Column(2, Address),
-        Column(8, Name(0, 22, 7)),
-        Column(4, Text),
-        Column(5, Version(6)),
-        Column(9, Addend(3)),
+        ("", 1, Decimal(6)),
+        (" ", 2, ShortAddress),
+        (" ", 8, Name(0, 22, 7)),
+        (" ", 4, Text),
+        ("", 5, Version(6)),
+        ("", 9, Addend(3)),
     ],
+    "\n",
 );
 
 pub static MIPS_RELOCATION: Layout = (
     Some("relocation"),
-    "% % %/%/% %%%\n",
     &[
-        Column(1, Decimal(6)),
-        Column(2, Address),
-        Column(8, Name(0, 0, 7)),
-        Column(13, Name(0, 0, 12)),
-        Column(15, Name(0, 0, 14)),
-        Column(4, Text),
-        Column(5, Version(6)),
-        Column(9, Addend(3)),
+        ("", 1, Decimal(6)),
+        (" ", 2, ShortAddress),
+        (" ", 8, Name(0, 0, 7)),
+        ("/", 13, Name(0, 0, 12)),
+        ("/", 15, Name(0, 0, 14)),
+        (" ", 4, Text),
+        ("", 5, Version(6)),
+        ("", 9, Addend(3)),
     ],
+    "\n",
 );
 
 pub static RELATIVE: Layout = (
     Some("relative_relocation"),
-    "       %\n",
-    &[Column(1, Address)],
+    &[("       ", 1, ShortAddress)],
+    "\n",
 );
 
 pub static RELOCATION_TABLE_HEADING: Layout = (
     None,
-    "Relocations of %%:\n    nr offset  % type                   symbol, addend\n",
-    &[Column(0, Text), Column(1, Count), Column(0, Room)],
+    &[
+        ("Relocations of ", 0, Text),
+        ("", 1, Count),
+        (":\n    nr offset  ", 0, ShortRoom),
+    ],
+    " type                   symbol, addend\n",
 );
 
-pub static SECTION_NOTES_HEADING: Layout = (None, "Notes of section % (%)%:\n", &COUNTED_COLUMNS);
+pub static SECTION_NOTES_HEADING: Layout = (
+    None,
+    &[
+        ("Notes of section ", 0, Decimal(0)),
+        (" (", 1, Text),
+        (")", 2, Count),
+    ],
+    ":\n",
+);
 
 pub static SEGMENT_NOTES_HEADING: Layout = (
     None,
-    "Notes of segment %%:\n",
-    &[Column(0, Decimal(0)), Column(1, Count)],
+    &[("Notes of segment ", 0, Decimal(0)), ("", 1, Count)],
+    ":\n",
 );
 
-pub static BUILD_ID_NOTE: Layout = (Some("note"), "  GNU build id  %\n", &[Column(5, Pairs)]);
+pub static BUILD_ID_NOTE: Layout = (Some("note"), &[("  GNU build id  ", 5, Pairs)], "\n");
 
 pub static ABI_TAG_NOTE: Layout = (
     Some("note"),
-    "  GNU ABI tag   % %.%.%\n",
     &[
-        Column(6, Name(0, 0, 5)),
-        Column(7, Decimal(0)),
-        Column(8, Decimal(0)),
-        Column(9, Decimal(0)),
+        ("  GNU ABI tag   ", 6, Name(0, 0, 5)),
+        (" ", 7, Decimal(0)),
+        (".", 8, Decimal(0)),
+        (".", 9, Decimal(0)),
     ],
+    "\n",
 );
 
 pub static NOTE: Layout = (
     Some("note"),
-    "  % %  %\n",
     &[
-        Column(4, Text),
-        Column(3, Name(0, 0, 2)),
-        Column(5, Front(32)),
+        ("  ", 4, Text),
+        (" ", 3, Name(0, 0, 2)),
+        ("  ", 5, Front(16)),
     ],
+    "\n",
 );
 
 // The names of properties without `GNU_PROPERTY_`.
 pub static NUMBER_PROPERTY: Layout = (
     Some("note_property"),
-    "    % %%\n",
     &[
-        Column(3, Name(13, 0, 2)),
-        Column(5, Hexadecimal),
-        Column(6, Flags(0)),
+        ("    ", 3, Name(13, 0, 2)),
+        (" ", 5, Hexadecimal),
+        ("", 6, Flags(0)),
     ],
+    "\n",
 );
 
 pub static PROPERTY: Layout = (
     Some("note_property"),
-    "    %, % bytes\n",
-    &[Column(3, Name(13, 0, 2)), Column(4, Decimal(0))],
+    &[("    ", 3, Name(13, 0, 2)), (", ", 4, Decimal(0))],
+    " bytes\n",
 );
 
-pub static NOTE_TEXT: Layout = (Some("note_text"), "    %\n", &[Column(2, Text)]);
+pub static NOTE_TEXT: Layout = (Some("note_text"), &[("    ", 2, Text)], "\n");
 
 pub static PROBE: Layout = (
     Some("note_probe"),
-    "    %:%  at % of %, semaphore %  %\n",
     &[
-        Column(2, Text),
-        Column(3, Text),
-        Column(5, Hexadecimal),
-        Column(6, Hexadecimal),
-        Column(7, Hexadecimal),
-        Column(4, Text),
+        ("    ", 2, Text),
+        (":", 3, Text),
+        ("  at ", 5, Hexadecimal),
+        (" of ", 6, Hexadecimal),
+        (", semaphore ", 7, Hexadecimal),
+        ("  ", 4, Text),
     ],
+    "\n",
 );
 
 pub static MAPPED_FILES: Layout = (
     Some("note_files"),
-    "    mapped files: %, page size %\n",
-    &[Column(2, Decimal(0)), Column(3, Decimal(0))],
+    &[
+        ("    mapped files: ", 2, Decimal(0)),
+        (", page size ", 3, Decimal(0)),
+    ],
+    "\n",
 );
 
 pub static MAPPED_FILE: Layout = (
     Some("note_file"),
-    "    %-% page %  %\n",
     &[
-        Column(2, Address),
-        Column(3, Address),
-        Column(4, Hexadecimal),
-        Column(5, Text),
+        ("    ", 2, Address),
+        ("-", 3, Address),
+        (" page ", 4, Hexadecimal),
+        ("  ", 5, Text),
     ],
+    "\n",
 );
 
 pub static PROCESS_STATUS: Layout = (
     Some("note_prstatus"),
-    "    process %, signal %\n",
-    &[Column(3, Decimal(0)), Column(2, Decimal(0))],
+    &[
+        ("    process ", 3, Decimal(0)),
+        (", signal ", 2, Decimal(0)),
+    ],
+    "\n",
 );
 
 pub static PROCESS_INFO: Layout = (
     Some("note_prpsinfo"),
-    "    program %, arguments %\n",
-    &[Column(2, Text), Column(3, Text)],
+    &[("    program ", 2, Text), (", arguments ", 3, Text)],
+    "\n",
 );
 
 pub static SIGNAL_INFO: Layout = (
     Some("note_siginfo"),
-    "    signal %, code %, error %\n",
-    &[Column(2, Signed), Column(3, Signed), Column(4, Signed)],
+    &[
+        ("    signal ", 2, Signed),
+        (", code ", 3, Signed),
+        (", error ", 4, Signed),
+    ],
+    "\n",
 );
 
 // The names of entries without `AT_`.
 pub static AUXILIARY_ENTRY: Layout = (
     Some("note_auxv"),
-    "    % %\n",
-    &[Column(3, Name(3, 17, 2)), Column(4, Hexadecimal)],
+    &[("    ", 3, Name(3, 17, 2)), (" ", 4, Hexadecimal)],
+    "\n",
 );
 
 pub static DEFINED_HEADING: Layout = (
     None,
-    "Versions defined, of section % (%)%:\n",
-    &COUNTED_COLUMNS,
+    &[
+        ("Versions defined, of section ", 0, Decimal(0)),
+        (" (", 1, Text),
+        (")", 2, Count),
+    ],
+    ":\n",
 );
 
 pub static NEEDED_HEADING: Layout = (
     None,
-    "Files with needed versions, of section % (%)%:\n",
-    &COUNTED_COLUMNS,
+    &[
+        ("Files with needed versions, of section ", 0, Decimal(0)),
+        (" (", 1, Text),
+        (")", 2, Count),
+    ],
+    ":\n",
 );
 
-pub static DEFINED_TABLE_HEADING: Layout = (None, "Versions defined, of DT_VERDEF:\n", &[]);
+pub static DEFINED_TABLE_HEADING: Layout = (None, &[], "Versions defined, of DT_VERDEF:\n");
 
 pub static NEEDED_TABLE_HEADING: Layout = (
     None,
-    "Files with needed versions, of DT_VERNEED:\n",
     &[],
+    "Files with needed versions, of DT_VERNEED:\n",
 );
 
 // The names of flags without `VER_FLG_`.
 pub static VERDEF: Layout = (
     Some("verdef"),
-    "  % flags %% ",
     &[
-        Column(3, Decimal(5)),
-        Column(1, Hexadecimal),
-        Column(2, Flags(8)),
+        ("  ", 3, Decimal(5)),
+        (" flags ", 1, Hexadecimal),
+        ("", 2, Flags(8)),
     ],
+    " ",
 );
 
-pub static VERDAUX: Layout = (Some("verdaux"), " %", &[Column(3, Text)]);
+pub static VERDAUX: Layout = (Some("verdaux"), &[(" ", 3, Text)], "");
 
-pub static VERDEF_END: Layout = (None, "\n", &[]);
+pub static VERDEF_END: Layout = (None, &[], "\n");
 
-pub static VERNEED: Layout = (Some("verneed"), "  of %\n", &[Column(3, Text)]);
+pub static VERNEED: Layout = (Some("verneed"), &[("  of ", 3, Text)], "\n");
 
 pub static VERNAUX: Layout = (
     Some("vernaux"),
-    "  % flags %%  %\n",
     &[
-        Column(5, Decimal(5)),
-        Column(3, Hexadecimal),
-        Column(4, Flags(8)),
-        Column(7, Text),
+        ("  ", 5, Decimal(5)),
+        (" flags ", 3, Hexadecimal),
+        ("", 4, Flags(8)),
+        ("  ", 7, Text),
     ],
+    "\n",
 );
 
 pub static CHAINS_HEADING: Layout = (
     None,
-    "Buckets of hash section % (%) by the length of their chains, % in all:\n  length   buckets   share  coverage\n",
     &[
-        Column(0, Decimal(0)),
-        Column(1, Text),
-        Column(2, Decimal(0)),
+        ("Buckets of hash section ", 0, Decimal(0)),
+        (" (", 1, Text),
+        (") by the length of their chains, ", 2, Decimal(0)),
     ],
+    " in all:\n  length   buckets   share  coverage\n",
 );
 
 pub static CHAINS_TABLE_HEADING: Layout = (
     None,
-    "Buckets of % by the length of their chains, % in all:\n  length   buckets   share  coverage\n",
-    &[Column(0, Text), Column(1, Decimal(0))],
+    &[
+        ("Buckets of ", 0, Text),
+        (" by the length of their chains, ", 1, Decimal(0)),
+    ],
+    " in all:\n  length   buckets   share  coverage\n",
 );
 
 pub static CHAIN_LENGTH: Layout = (
     Some("chain_length"),
-    "% %  %    %\n",
     &[
-        Column(1, Decimal(8)),
-        Column(2, Decimal(9)),
-        Column(2, Percent(3)),
-        Column(4, Percent(5)),
+        ("", 1, Decimal(8)),
+        (" ", 2, Decimal(9)),
+        ("  ", 2, Percent(3)),
+        ("    ", 4, Percent(5)),
     ],
+    "\n",
 );
 
 pub static ATTRIBUTES_HEADING: Layout = (
     None,
-    "Build attributes of section % (%):\n",
-    &HEADING_COLUMNS,
+    &[
+        ("Build attributes of section ", 0, Decimal(0)),
+        (" (", 1, Text),
+    ],
+    "):\n",
 );
 
 // The names of tags without `Tag_`.
 pub static ATTRIBUTE_SCOPE: Layout = (
     Some("attribute_scope"),
-    "  % attributes of %\n",
-    &[Column(3, Name(4, 0, 2)), Column(1, Text)],
+    &[("  ", 3, Name(4, 0, 2)), (" attributes of ", 1, Text)],
+    "\n",
 );
 
 pub static ATTRIBUTE_TARGET: Layout = (
     Some("attribute_target"),
-    "    for %\n",
-    &[Column(4, Decimal(0))],
+    &[("    for ", 4, Decimal(0))],
+    "\n",
 );
 
 pub static NUMBER_ATTRIBUTE: Layout = (
     Some("attribute"),
-    "    %  %\n",
-    &[Column(5, Name(4, 27, 4)), Column(6, Decimal(0))],
+    &[("    ", 5, Name(4, 27, 4)), ("  ", 6, Decimal(0))],
+    "\n",
 );
 
 pub static NAMED_ATTRIBUTE: Layout = (
     Some("attribute"),
-    "    %  %\n",
-    &[Column(5, Name(4, 27, 4)), Column(7, Name(0, 0, 6))],
+    &[("    ", 5, Name(4, 27, 4)), ("  ", 7, Name(0, 0, 6))],
+    "\n",
 );
 
 pub static TEXT_ATTRIBUTE: Layout = (
     Some("attribute"),
-    "    %  %\n",
-    &[Column(5, Name(4, 27, 4)), Column(8, Text)],
+    &[("    ", 5, Name(4, 27, 4)), ("  ", 8, Text)],
+    "\n",
 );
 
 pub static PAIR_ATTRIBUTE: Layout = (
     Some("attribute"),
-    "    %  %, %\n",
     &[
-        Column(5, Name(4, 27, 4)),
-        Column(6, Decimal(0)),
-        Column(8, Text),
+        ("    ", 5, Name(4, 27, 4)),
+        ("  ", 6, Decimal(0)),
+        (", ", 8, Text),
     ],
+    "\n",
 );
 
 pub static VENDOR_ATTRIBUTES: Layout = (
     Some("vendor_attributes"),
-    "  attributes of %, of a form of its own: %\n",
-    &[Column(1, Text), Column(2, Front(32))],
+    &[
+        ("  attributes of ", 1, Text),
+        (", of a form of its own: ", 2, Front(16)),
+    ],
+    "\n",
 );
 
-pub static DEBUG_LINK_HEADING: Layout = (None, "Debug link of section % (%):\n", &HEADING_COLUMNS);
+pub static DEBUG_LINK_HEADING: Layout = (
+    None,
+    &[("Debug link of section ", 0, Decimal(0)), (" (", 1, Text)],
+    "):\n",
+);
 
 pub static DEBUG_LINK: Layout = (
     Some("debug_link"),
-    "  %  CRC 0x%\n",
-    &[Column(1, Text), Column(2, Digits8)],
+    &[("  ", 1, Text), ("  CRC 0x", 2, Digits8)],
+    "\n",
 );
 
 pub static DEBUG_ALT_LINK: Layout = (
     Some("debug_alt_link"),
-    "  %  build id %\n",
-    &[Column(1, Text), Column(2, Pairs)],
+    &[("  ", 1, Text), ("  build id ", 2, Pairs)],
+    "\n",
 );
 
-pub static BYTES_HEADING: Layout = (None, "Bytes of section % (%):\n", &HEADING_COLUMNS);
+pub static BYTES_HEADING: Layout = (
+    None,
+    &[("Bytes of section ", 0, Decimal(0)), (" (", 1, Text)],
+    "):\n",
+);
 
-pub static STRINGS_HEADING: Layout = (None, "Strings of section % (%):\n", &HEADING_COLUMNS);
+pub static STRINGS_HEADING: Layout = (
+    None,
+    &[("Strings of section ", 0, Decimal(0)), (" (", 1, Text)],
+    "):\n",
+);
 
-pub static NO_BYTES: Layout = (None, "  none in the file\n", &[]);
+pub static NO_BYTES: Layout = (None, &[], "  none in the file\n");
 
-pub static EMPTY_SECTION: Layout = (None, "  none, the section is empty\n", &[]);
+pub static EMPTY_SECTION: Layout = (None, &[], "  none, the section is empty\n");
 
 pub static COMPRESSION: Layout = (
     Some("compression"),
-    "  compressed: %, % bytes, alignment %\n",
     &[
-        Column(2, Name(0, 0, 1)),
-        Column(3, Decimal(0)),
-        Column(4, Decimal(0)),
+        ("  compressed: ", 2, Name(0, 0, 1)),
+        (", ", 3, Decimal(0)),
+        (" bytes, alignment ", 4, Decimal(0)),
     ],
+    "\n",
 );
 
-pub static SECTION_DATA: Layout = (Some("section_data"), "%", &[Column(2, Dump(1))]);
+pub static SECTION_DATA: Layout = (Some("section_data"), &[("", 2, Dump(1))], "");
 
 pub static SECTION_STRING: Layout = (
     Some("section_string"),
-    "  [%]  %\n",
-    &[Column(1, Digits8), Column(2, Text)],
+    &[("  [", 1, Digits8), ("]  ", 2, Text)],
+    "\n",
 );
 
 pub static MAPPINGS_HEADING: Layout = (
     None,
-    "address   % memory     bytes of the file      flags\n",
-    &[Column(0, Room)],
+    &[("address   ", 0, Room)],
+    " memory     bytes of the file      flags\n",
 );
 
 pub static MAPPING: Layout = (
     Some("mapping"),
-    "0x% 0x% 0x% at 0x% %\n",
     &[
-        Column(0, Address),
-        Column(1, Digits8),
-        Column(3, Digits8),
-        Column(2, Digits8),
-        Column(4, SegmentFlags),
+        ("0x", 0, Address),
+        (" 0x", 1, Digits8),
+        (" 0x", 3, Digits8),
+        (" at 0x", 2, Digits8),
+        (" ", 4, SegmentFlags),
     ],
+    "\n",
 );
 
-pub static BUILD_ID: Layout = (Some("build_id"), "%\n", &[Column(0, Pairs)]);
+pub static BUILD_ID: Layout = (Some("build_id"), &[("", 0, Pairs)], "\n");
 
-const ADDRESS_COLUMNS: [Column; 3] = [
-    Column(0, Hexadecimal),
-    Column(2, Text),
-    Column(3, Hexadecimal),
-];
+pub static INSIDE: Layout = (
+    Some("address"),
+    &[("", 0, Hexadecimal), (" ", 2, Text), ("+", 3, Hexadecimal)],
+    "\n",
+);
 
-pub static INSIDE: Layout = (Some("address"), "% %+%\n", &ADDRESS_COLUMNS);
+pub static PAST_END: Layout = (
+    Some("address"),
+    &[("", 0, Hexadecimal), (" ", 2, Text), ("+", 3, Hexadecimal)],
+    " past its end\n",
+);
 
-pub static PAST_END: Layout = (Some("address"), "% %+% past its end\n", &ADDRESS_COLUMNS);
+pub static SOUND_FILE: Layout = (None, &[("", 0, Text)], ": sound\n");
 
-pub static SOUND_FILE: Layout = (None, "%: sound\n", &[Column(0, Text)]);
-
-pub static VERDICT: Layout = (Some("check"), "", &[]);
+pub static VERDICT: Layout = (Some("check"), &[], "");
 
 pub static HARDENED_FILE: Layout = (
     None,
-    "%: %  relro %  %  stack %  wx %  %  fortified %  fortifiable %  rpath %  runpath %%%%\n",
     &[
-        Column(0, Text),
-        Column(1, Name(0, 13, 1)),
-        Column(2, Name(0, 7, 2)),
-        Column(3, Name(0, 4, 3)),
-        Column(4, Name(0, 10, 4)),
-        Column(5, Decimal(0)),
-        Column(6, Name(0, 9, 6)),
-        Column(7, Decimal(0)),
-        Column(8, Decimal(0)),
-        Column(9, Text),
-        Column(10, Text),
-        Column(11, Name(0, 0, 11)),
-        Column(12, Flags(0)),
-        Column(13, Name(0, 0, 13)),
+        ("", 0, Text),
+        (": ", 1, Name(0, 13, 1)),
+        ("  relro ", 2, Name(0, 7, 2)),
+        ("  ", 3, Name(0, 4, 3)),
+        ("  stack ", 4, Name(0, 10, 4)),
+        ("  wx ", 5, Decimal(0)),
+        ("  ", 6, Name(0, 9, 6)),
+        ("  fortified ", 7, Decimal(0)),
+        ("  fortifiable ", 8, Decimal(0)),
+        ("  rpath ", 9, Text),
+        ("  runpath ", 10, Text),
+        ("", 11, Name(0, 0, 11)),
+        ("", 12, Flags(0)),
+        ("", 13, Name(0, 0, 13)),
     ],
+    "\n",
 );
 
-pub static HARDENING: Layout = (Some("hardening"), "", &[]);
+pub static HARDENING: Layout = (Some("hardening"), &[], "");
 
-pub static PROGRAM: Layout = (Some("object"), "%%\n", &[Column(0, Depth), Column(2, Text)]);
+pub static PROGRAM: Layout = (Some("object"), &[("", 0, Depth), ("", 2, Text)], "\n");
 
 pub static LIBRARY: Layout = (
     Some("object"),
-    "%% => %\n",
-    &[Column(0, Depth), Column(1, Text), Column(2, Text)],
+    &[("", 0, Depth), ("", 1, Text), (" => ", 2, Text)],
+    "\n",
 );
 
 pub static MISSING_LIBRARY: Layout = (
     Some("object"),
-    "%% => not found\n",
-    &[Column(0, Depth), Column(1, Text)],
+    &[("", 0, Depth), ("", 1, Text)],
+    " => not found\n",
 );
 
-const BOUND_COLUMNS: [Column; 4] = [
-    Column(2, Text),
-    Column(3, Version(5)),
-    Column(6, Text),
-    Column(8, Target(2, 3, 9)),
-];
+pub static BOUND: Layout = (
+    Some("binding"),
+    &[
+        ("", 2, Text),
+        ("", 3, Version(5)),
+        (" => ", 6, Text),
+        ("", 8, Target(2, 3, 9)),
+    ],
+    "\n",
+);
 
-pub static BOUND: Layout = (Some("binding"), "%% => %%\n", &BOUND_COLUMNS);
+pub static BOUND_ADDRESS: Layout = (
+    Some("binding"),
+    &[
+        ("", 2, Text),
+        ("", 3, Version(5)),
+        (" => ", 6, Text),
+        ("", 8, Target(2, 3, 9)),
+    ],
+    " (address)\n",
+);
 
-pub static BOUND_ADDRESS: Layout = (Some("binding"), "%% => %% (address)\n", &BOUND_COLUMNS);
+pub static UNBOUND: Layout = (
+    Some("binding"),
+    &[
+        ("", 2, Text),
+        ("", 3, Version(5)),
+        (" => ", 5, Name(0, 0, 5)),
+    ],
+    "\n",
+);
 
-const UNBOUND_COLUMNS: [Column; 3] = [
-    Column(2, Text),
-    Column(3, Version(5)),
-    Column(5, Name(0, 0, 5)),
-];
+pub static UNBOUND_ADDRESS: Layout = (
+    Some("binding"),
+    &[
+        ("", 2, Text),
+        ("", 3, Version(5)),
+        (" => ", 5, Name(0, 0, 5)),
+    ],
+    " (address)\n",
+);
 
-pub static UNBOUND: Layout = (Some("binding"), "%% => %\n", &UNBOUND_COLUMNS);
-
-pub static UNBOUND_ADDRESS: Layout = (Some("binding"), "%% => % (address)\n", &UNBOUND_COLUMNS);
-
-pub static SAME_ADDRESS: Layout = (Some("binding"), "", &[]);
+pub static SAME_ADDRESS: Layout = (Some("binding"), &[], "");

@@ -2,21 +2,21 @@
 ghost use Rattle.std.specs.Prelude.{◌≡◌, ◌+◌, ◌-◌, ◌*◌, ◌/◌, ◌<◌, ◌≤◌, ◌&&◌, OnOk, length, replicate};
 ghost use Rattle.std.specs.Fmt.{decimal};
 ghost use Rattle.std.specs.Io.KnownBytes.{Appends};
-ghost use Rattle.std.specs.List.{after_first, before_first, flat_map};
+ghost use Rattle.std.specs.List.{flat_map};
 ghost use Rattle.std.specs.Option.{option_copied};
 ghost use Rattle.elf_names.specs.Flags.{flag_of, flags_of};
 ghost use Rattle.elfshow_lines.specs.Adding.{Adds};
 ghost use Rattle.nugwier_writing.specs.Members.{content_of, members_said};
 ghost use Rattle.nugwier_writing.specs.Text.{all_digits, ascii, ascii_text, at_signs, bytes_in, cell, content_at, dump};
-ghost use Rattle.nugwier_writing.specs.Text.{dump_address, dump_characters, dump_columns, dump_group, dump_line, is_mark};
-ghost use Rattle.nugwier_writing.specs.Text.{known_count, look_of, room_of, shown_address};
+ghost use Rattle.nugwier_writing.specs.Text.{dump_address, dump_characters, dump_columns, dump_group, dump_line};
+ghost use Rattle.nugwier_writing.specs.Text.{known_count, look_of, room_of, shown_address, shown_short_address, short_room_of};
 ghost use Rattle.nugwier_writing.specs.Text.{count_left_out, front_of, index_number, left_out};
 ghost use Rattle.nugwier_writing.specs.Text.{left_of, letters_of, nameless_number, nameless_signed, number_in, number_text};
 ghost use Rattle.nugwier_writing.specs.Text.{other_flags};
 ghost use Rattle.nugwier_writing.specs.Text.{row_text, section_letter, segment_flags, segment_letter, shown, shown_addend};
 ghost use Rattle.nugwier_writing.specs.Text.{shown_character, shown_count, shown_decimal, shown_flag, shown_flags, shown_index, shown_name, shown_nameless};
 ghost use Rattle.nugwier_writing.specs.Text.{shown_front, shown_number, shown_order, shown_padded, shown_percent};
-ghost use Rattle.nugwier_writing.specs.Text.{bold_if, colored, framed, is_text, percent, shown_signed, shown_text, signed_hex, tenths};
+ghost use Rattle.nugwier_writing.specs.Text.{bold_if, colored, column_of, columns_of, framed, is_text, labeled, percent, shown_signed, shown_text, signed_hex, tenths};
 ghost use Rattle.nugwier_writing.specs.Text.{same_text, shown_target, shown_version, text_in, wide};
 
 use crate::escape::add_shown;
@@ -45,6 +45,10 @@ pub enum Shown {
     Address,
     /// In place of a value, the 8 spaces by which the column of an address is wider in a file of class `ELF64`.
     Room,
+    /// An address in wide rows; in others a number as 8 hexadecimal digits, or as 16 if it has more than 32 bits.
+    ShortAddress,
+    /// In place of a value, the spaces by which the column of such an address is wider in wide rows.
+    ShortRoom,
     /// A number with a sign, in decimal.
     Signed,
     /// The share of a number in the one at this place, in percent. A number above that one has none, nor has any of 0.
@@ -92,14 +96,13 @@ pub enum Shown {
     Dump(usize),
 }
 
-/// A column: the place of the member that it shows, and how.
-#[derive(Clone, Copy)]
-pub struct Column(pub usize, pub Shown);
+/// A column: the text before it, the place of the member that it shows, and how.
+pub type Column = (&'static str, usize, Shown);
 
 /// How rows are written.
 #[derive(Debug, Clone, Copy)]
 pub struct Style {
-    /// Whether long bytes are shown as a whole.
+    /// Whether long bytes are shown as a whole, and addresses with all their digits.
     pub is_wide: bool,
     /// Whether headings are bold, and texts of the file in colour.
     pub is_colored: bool,
@@ -108,7 +111,7 @@ pub struct Style {
 /// What the cells of a row depend on beside the record.
 #[derive(Debug, Clone, Copy)]
 pub struct Look {
-    /// Whether long bytes are shown as a whole.
+    /// Whether long bytes are shown as a whole, and addresses with all their digits.
     pub is_wide: bool,
     /// Whether texts of the file are in colour.
     pub is_colored: bool,
@@ -116,19 +119,19 @@ pub struct Look {
     pub class: Class,
 }
 
-/// Writes the row of a record of a file of this class: this text, with a column in the place of each `%`. A heading may be bold.
+/// Writes the row of a record of a file of this class: the columns, and the text after them. A heading may be bold.
 pub fn write_row<W: Write>(
     style: Style,
     class: Class,
     is_heading: bool,
-    row: &str,
     columns: &[Column],
+    end: &str,
     members: &[Member<'_>],
     out: &mut W,
 ) -> io::Result<()>
     ensures { OnOk result (Appends (W.contents out.old) (W.contents out.new)
         (bold_if (style.is_colored && is_heading)
-        (row_text (look_of style class) (members_said members.now) row.now columns.now))) }
+        (row_text (look_of style class) (members_said members.now) (columns_of columns.now) end.now))) }
 {
     let look = Look {
         is_wide: style.is_wide,
@@ -137,9 +140,9 @@ pub fn write_row<W: Write>(
     };
     let mut lines = LineBuffer::empty();
     if style.is_colored && is_heading {
-        add_bold(look, row, columns, members, &mut lines, out);
+        add_bold(look, columns, end, members, &mut lines, out);
     } else {
-        add_cells(look, row, columns, members, &mut lines, out);
+        add_row(look, columns, end, members, &mut lines, out);
     }
     lines.end(out)
 }
@@ -148,67 +151,67 @@ pub fn write_row<W: Write>(
 #[tactic(auto, unfolding(crate::specs::Text::framed))]
 fn add_bold<W: Write>(
     look: Look,
-    row: &str,
     columns: &[Column],
+    end: &str,
     members: &[Member<'_>],
     lines: &mut LineBuffer,
     out: &mut W,
 )
     ensures { Adds (W.contents out.old) lines.old (W.contents out.new) lines.new
-        (framed (row_text look (members_said members.now) row.now columns.now)) }
+        (framed (row_text look (members_said members.now) (columns_of columns.now) end.now)) }
 {
     lines.text("\x1b[1m", out);
-    add_cells(look, row, columns, members, lines, out);
+    add_row(look, columns, end, members, lines, out);
     lines.text("\x1b[0m", out);
 }
 
-fn add_cells<W: Write>(
+fn add_row<W: Write>(
     look: Look,
-    row: &str,
     columns: &[Column],
+    end: &str,
     members: &[Member<'_>],
     lines: &mut LineBuffer,
     out: &mut W,
 )
     ensures { Adds (W.contents out.old) lines.old (W.contents out.new) lines.new
-        (row_text look (members_said members.now) row.now columns.now) }
+        (row_text look (members_said members.now) (columns_of columns.now) end.now) }
 {
-    let mut rest = row;
     for column in columns {
-        let (before, after) = at_mark(rest);
-        lines.text(before, out);
-        add_cell(look, *column, members, lines, out);
-        rest = after;
+        add_column(look, column, members, lines, out);
     }
-    lines.text(rest, out);
+    lines.text(end, out);
 }
 
-// The text before the first `%`, and the text after it.
-fn at_mark(row: &str) -> (&str, &str)
-    ensures before { result.0.now ≡ before_first is_mark row.now }
-    ensures after { result.1.now ≡ after_first is_mark row.now }
+// Adds a column after its text.
+fn add_column<W: Write>(
+    look: Look,
+    column: &Column,
+    members: &[Member<'_>],
+    lines: &mut LineBuffer,
+    out: &mut W,
+)
+    ensures { Adds (W.contents out.old) lines.old (W.contents out.new) lines.new
+        (labeled look (members_said members.now) (column_of column.now)) }
 {
-    match row.split_once('%') {
-        Some(parts) => parts,
-        None => (row, ""),
-    }
+    lines.text(column.0, out);
+    add_cell(look, column, members, lines, out);
 }
 
 fn add_cell<W: Write>(
     look: Look,
-    column: Column,
+    column: &Column,
     members: &[Member<'_>],
     lines: &mut LineBuffer,
     out: &mut W,
 )
     ensures { Adds (W.contents out.old) lines.old (W.contents out.new) lines.new
-        (cell look (members_said members.now) column) }
+        (cell look (members_said members.now) (column_of column.now)) }
 {
-    let value = value_at(members, column.0);
-    if look.is_colored && is_text(column.1) {
-        add_colored(look, column.1, value, members, lines, out);
+    let value = value_at(members, column.1);
+    if look.is_colored && is_text(column.2) {
+        add_colored(look, column.2, value, members, lines, out);
     } else {
-        add_value(look, column.1, value, members, lines, out);
+        add_value(look, column.2, value, members, lines, out);
     }
 }
 
@@ -265,6 +268,8 @@ fn add_value<W: Write>(
     match form {
         Shown::Address => add_address_value(look.class, value, lines, out),
         Shown::Room => lines.text(room_of(look.class), out),
+        Shown::ShortAddress => add_short_address(look, value, lines, out),
+        Shown::ShortRoom => lines.text(short_room_of(look), out),
         Shown::Addend(symbol) => add_addend(value, value_at(members, symbol), lines, out),
         Shown::Name(skipped, width, number) => {
             let number = value_at(members, number);
@@ -334,6 +339,28 @@ fn room_of(class: Class) -> &'static str
     match class {
         Class::ELF32 => "",
         Class::ELF64 => "        ",
+    }
+}
+
+// In a row that is not wide without the zeros before it.
+fn add_short_address<W: Write>(look: Look, value: Value<'_>, lines: &mut LineBuffer, out: &mut W)
+    ensures { Adds (W.contents out.old) lines.old (W.contents out.new) lines.new
+        (shown_short_address look (content_of value.entry)) }
+{
+    if look.is_wide {
+        add_address_value(look.class, value, lines, out);
+    } else {
+        add_number(Shown::Digits8, value, lines, out);
+    }
+}
+
+fn short_room_of(look: Look) -> &'static str
+    ensures { result.now ≡ short_room_of look }
+{
+    if look.is_wide {
+        room_of(look.class)
+    } else {
+        ""
     }
 }
 
@@ -950,7 +977,19 @@ fn segment_letter(n: u64, mask: u64, letter: &'static str) -> &'static str
 
 // ---- spaces
 
+#[tactic(auto, using(crate::proofs::Spaces::eight_more))]
 fn add_spaces<W: Write>(count: usize, lines: &mut LineBuffer, out: &mut W)
+    ensures { Adds (W.contents out.old) lines.old (W.contents out.new) lines.new (replicate count 32) }
+{
+    let mut left = count;
+    while left >= 8 {
+        lines.text("        ", out);
+        left -= 8;
+    }
+    add_few_spaces(left, lines, out);
+}
+
+fn add_few_spaces<W: Write>(count: usize, lines: &mut LineBuffer, out: &mut W)
     ensures { Adds (W.contents out.old) lines.old (W.contents out.new) lines.new (replicate count 32) }
 {
     let mut left = count;

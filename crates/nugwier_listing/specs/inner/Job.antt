@@ -15,7 +15,7 @@ use Rattle.nugwier_listing.specs.declared.list.ListTables.{ListTables}
 use Rattle.nugwier_listing.specs.declared.list.PartTables.{PartTables}
 use Rattle.nugwier_listing.specs.declared.list.PartTables.TheVariants as part
 use Rattle.nugwier_sections.specs.inner.Attributes.{part_said as attributes_said}
-use Rattle.nugwier_sections.specs.inner.Chains.{part_said as chains_said}
+use Rattle.nugwier_linking.specs.inner.Chains.{part_said as chains_said}
 use Rattle.nugwier_sections.specs.inner.Contents.{part_said as content_said}
 use Rattle.nugwier_sections.specs.inner.DebugLinks.{part_said as debug_links_said}
 use Rattle.nugwier_hardening.specs.inner.Dynamic.{entries_said, needed_said}
@@ -26,7 +26,7 @@ use Rattle.nugwier_symbols.specs.inner.Relocations.{tables_said}
 use Rattle.nugwier_sections.specs.inner.Sections.{taken_sections_said}
 use Rattle.nugwier_sections.specs.inner.Segments.{tables_said as segments_said}
 use Rattle.nugwier_symbols.specs.inner.Symbols.{table_said}
-use Rattle.nugwier_sections.specs.inner.VersionLists.{part_said as versions_said}
+use Rattle.nugwier_linking.specs.inner.VersionLists.{part_said as versions_said}
 use Rattle.nugwier_records.specs.Header.{header_said}
 use Rattle.nugwier_report.specs.Said.{Said}
 

@@ -1,0 +1,4 @@
+-- the chains of hash sections that were taken
+pub mod Chains
+-- the versions that were taken
+pub mod VersionLists
