@@ -8,7 +8,8 @@ ghost use Rattle.elf_c.specs.HashTables.{gnu_of_c, sysv_of_c};
 ghost use Rattle.elf_c.specs.Status.{IsWritten, status_of, written};
 ghost use Rattle.elf_c.specs.Tables.{class_in, table_of_c};
 
-use crate::find::{NugwierFound, write_found};
+use crate::find::{NugwierFound, found_shown, write_found};
+use crate::gnu_find::find_quickly;
 use crate::status::{NugwierStatus, done, refused};
 use crate::table::{NugwierTable, class_in, order_in, records_in};
 use elf_parts::endian::{EndianParse, LittleEndian};
@@ -163,10 +164,27 @@ fn sysv_table<'data, E: EndianParse>(
     SysVHashTable::from_parts(endian, class, sysv.buckets, sysv.chains)
 }
 
+// Looks a name up in a GNU hash section that was opened, of any byte order and class, and writes what was found. Not
+// inlined: it fills much room for errors.
+#[inline(never)]
+fn look_up_in_gnu(
+    gnu: &NugwierGnu<'_>,
+    symbols: &NugwierTable<'_>,
+    strings: &[u8],
+    name: &[u8],
+    found: &mut NugwierFound,
+) -> NugwierStatus
+    ensures status { result ≡ status_of (gnu_find (gnu_of_c gnu.now) (table_of_c symbols.now) strings.now name.now) }
+    ensures found { found.new ≡ written found_shown found.old
+        (gnu_find (gnu_of_c gnu.now) (table_of_c symbols.now) strings.now name.now) }
+{
+    let table = gnu_table(order_in(gnu.little), class_in(gnu.is_64), gnu);
+    let answer = table.find(name, &records_in(symbols), &StringTable::new(strings));
+    write_found(&answer, found)
+}
+
 /// Looks a name up in a GNU hash section that was opened, for these symbols and their strings. An error leaves `found`
 /// as it is; the errors are those of `GnuHashTable::find`.
-// In the first arm the byte order and the class are known to the compiler. `LittleEndian` gives it a copy of `find` of
-// its own, since of one that several places share the compiler inlines less.
 #[unsafe(no_mangle)]
 pub extern "C" fn nugwier_gnu_look_up(
     gnu: &NugwierGnu<'_>,
@@ -179,15 +197,17 @@ pub extern "C" fn nugwier_gnu_look_up(
     ensures found { found.new ≡ written found_shown found.old
         (gnu_find (gnu_of_c gnu.now) (table_of_c symbols.now) strings.now name.now) }
 {
-    let strtab = StringTable::new(strings);
-    if gnu.little && gnu.is_64 && symbols.little && symbols.is_64 {
-        let symtab = SymbolTable::new(LittleEndian, Class::ELF64, symbols.bytes);
-        let table = gnu_table(LittleEndian, Class::ELF64, gnu);
-        write_found(&table.find(name, &symtab, &strtab), found)
-    } else {
-        let symtab = records_in(symbols);
-        let table = gnu_table(order_in(gnu.little), class_in(gnu.is_64), gnu);
-        write_found(&table.find(name, &symtab, &strtab), found)
+    // Of nothing the compiler then writes zeros at once, and not each field of an answer.
+    match find_quickly(gnu, symbols, strings, name) {
+        Some(None) => {
+            *found = found_shown(&None);
+            done()
+        }
+        Some(answer) => {
+            *found = found_shown(&answer);
+            done()
+        }
+        None => look_up_in_gnu(gnu, symbols, strings, name, found),
     }
 }
 

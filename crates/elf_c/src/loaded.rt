@@ -1,11 +1,12 @@
 //! What is loaded of a file.
-ghost use Rattle.std.specs.Prelude.{◌≡◌, ◌≤◌, ◌-◌, IfErr, IfOk, IsTrue, drop, length, map, take};
+ghost use Rattle.std.specs.Prelude.{◌≡◌, ◌≤◌, ◌-◌, IfErr, IfOk, IfSome, IsTrue, Ok, drop, length, map, take};
 ghost use Rattle.std.specs.Option.{option_map};
 ghost use Rattle.elf_records.specs.Number.{ok_map};
 ghost use Rattle.elf_reading.specs.Cache.{covers, last_of};
 ghost use Rattle.elf.specs.Parts.{IsPlain};
 ghost use Rattle.elf_c.specs.Loaded.{part_of_c, parts_in, ranges_in};
 
+use crate::file::NugwierFile;
 use elf::{ParseError, ReadError};
 
 /// A range of a file with its bytes. The first of them is at `start` in the file.
@@ -85,6 +86,24 @@ impl<'data> Loaded<'data> {
         None
     }
 
+    /// The bytes of a range that has bytes and that a part holds.
+    #[inline(always)]
+    pub(crate) fn range_quickly(&self, start: u64, count: u64) -> Option<&'data [u8]>
+        ensures { IfSome result (λ part.
+            ranges_in self.now.size (parts_in self.now.bytes.now self.now.ranges.now) start count ≡ Ok part.now) }
+    {
+        if count == 0 {
+            return None;
+        }
+        let Some(end) = start.checked_add(count) else {
+            return None;
+        };
+        match self.holder(start, end) {
+            Some(part) => Some(part.part(start, end)),
+            None => None,
+        }
+    }
+
     /// The bytes of a range. If no part holds it, the error is that of the file, or the range is not loaded.
     pub(crate) fn range(&self, start: u64, count: u64) -> Result<&'data [u8], ReadError>
         ensures value { ok_map (λ part. part.now) result
@@ -106,5 +125,18 @@ impl<'data> Loaded<'data> {
             )))),
             None => Err(ReadError::NotLoaded((start, end))),
         }
+    }
+}
+
+/// What is loaded of a file.
+pub(crate) fn loaded_in<'data>(file: &NugwierFile<'data>) -> Loaded<'data>
+    ensures size { result.size ≡ file.now.size }
+    ensures bytes { result.bytes ≡ file.now.bytes }
+    ensures ranges { result.ranges ≡ file.now.ranges }
+{
+    Loaded {
+        size: file.size,
+        bytes: file.bytes,
+        ranges: file.ranges,
     }
 }

@@ -1,7 +1,7 @@
 //! A file is read as far as it is loaded.
 use crate::file::{NugwierFile, file_in};
-use crate::loaded::Loaded;
-use crate::table::{class_in, order_in};
+use crate::loaded::loaded_in;
+use crate::table::{class_in, order_in, records_in};
 use elf::headers::{Headers, VersionSections, first_named};
 use elf::reader::Reader;
 use elf::walk::HeaderIterator;
@@ -60,7 +60,10 @@ impl<'data> Reader<AnyEndian> for NugwierFile<'data> {
     }
 
     fn first_named(&self, names: &TerminatedStrings<'_>, name: &[u8]) -> Option<SectionHeader> {
-        file_in(self).first_named(names, name)
+        if !self.has_sections {
+            return None;
+        }
+        first_named(&records_in(&self.sections), names, name)
     }
 
     fn section_header(&self, index: u64) -> Option<SectionHeader> {
@@ -86,11 +89,6 @@ impl<'data> Reader<AnyEndian> for NugwierFile<'data> {
     }
 
     fn range(&self, start: u64, size: u64) -> Result<&[u8], ReadError> {
-        let loaded = Loaded {
-            size: self.size,
-            bytes: self.bytes,
-            ranges: self.ranges,
-        };
-        loaded.range(start, size)
+        loaded_in(self).range(start, size)
     }
 }

@@ -1,23 +1,30 @@
 //! The names of sections, and sections by their names.
-ghost use Rattle.std.specs.Prelude.{◌≡◌, is_some};
+ghost use Rattle.std.specs.Prelude.{◌≡◌, IfSome, Ok, Some, is_some, true};
+ghost use Rattle.std.specs.List.{find};
 ghost use Rattle.std.specs.Option.{option_map};
 ghost use Rattle.elf_records.specs.Number.{ok_map};
-ghost use Rattle.elf.specs.Answers.{section_header_by_name};
-ghost use Rattle.elf.specs.Names.{name_table};
+ghost use Rattle.elf_records.specs.StringTable.{strings_view};
+ghost use Rattle.elf_records.specs.Section.{section_header_reads};
+ghost use Rattle.elf_records.specs.Table.{table_in, table_items};
+ghost use Rattle.elf_records.specs.declared.file.Class.TheVariants.{ELF64};
+ghost use Rattle.elf.specs.Answers.{first_named, section_header_by_name};
+ghost use Rattle.elf.specs.Names.{has_name, name_section, name_table};
 ghost use Rattle.elf_c.specs.Loaded.{loaded_of_c};
 ghost use Rattle.elf_c.specs.Records.{section_shown};
 ghost use Rattle.elf_c.specs.SectionNames.{names_view, no_names_in, some_or};
-ghost use Rattle.elf_c.specs.Status.{IsWrittenIf, read_status, written};
+ghost use Rattle.elf_c.specs.Status.{IsWrittenIf, done, read_status, written};
 
 use crate::file::NugwierFile;
+use crate::loaded::loaded_in;
 use crate::records::NugwierSection;
 use crate::status::{NugwierStatus, done, unread};
-use crate::table::ForC;
+use crate::table::{ForC, records_in};
 use elf::reader::Reader;
-use elf::{ReadError, reader};
-use elf_parts::endian::AnyEndian;
-use elf_parts::section::SectionHeader;
-use elf_parts::string_table::TerminatedStrings;
+use elf::{ReadError, abi, reader};
+use elf_parts::endian::{AnyEndian, LittleEndian};
+use elf_parts::file::Class;
+use elf_parts::section::{SectionHeader, SectionHeaderTable};
+use elf_parts::string_table::{StringTable, TerminatedStrings};
 
 /// The strings with the names of the sections of a file, if it has any.
 #[repr(C)]
@@ -53,7 +60,83 @@ pub extern "C" fn nugwier_section_names<'data>(
     }
 }
 
-// The first section with a name.
+// The section that holds the names of the sections, where the header gives its index.
+#[tactic(auto, unfolding(elf::specs::Names::name_section))]
+#[inline(always)]
+fn name_section_quickly(file: &NugwierFile<'_>) -> Option<SectionHeader>
+    ensures { IfSome result (λ s. name_section (loaded_of_c file.now) ≡ Ok (Some s)) }
+{
+    let index = file.header.shstrndx;
+    if !file.has_sections || index == abi::SHN_UNDEF {
+        return None;
+    }
+    if index == abi::SHN_XINDEX {
+        return None;
+    }
+    records_in::<SectionHeader>(&file.sections).get_quickly(index as usize)
+}
+
+// The strings with the names of the sections. Where something is missing or cannot be read there is no answer:
+// `section_names` has the error. Its result, which can hold any error, has some hundred bytes to be filled.
+#[tactic(auto, unfolding(elf::specs::Names::name_table))]
+#[inline(always)]
+fn names_quickly<'data>(file: &NugwierFile<'data>) -> Option<StringTable<'data>>
+    ensures { IfSome result (λ names. name_table (loaded_of_c file.now) ≡ Ok (Some (strings_view names))) }
+{
+    let shdr = name_section_quickly(file)?;
+    let bytes = loaded_in(file).range_quickly(shdr.sh_offset, shdr.sh_size)?;
+    Some(StringTable::new(bytes))
+}
+
+// Whether a section has this name.
+#[inline(always)]
+fn has_name(names: &TerminatedStrings<'_>, name: &[u8], shdr: &SectionHeader) -> bool
+    ensures { result ≡ has_name names.now name.now shdr.now }
+{
+    match names.is_quickly(shdr.sh_name as usize, name) {
+        Some(is_named) => is_named,
+        None => false,
+    }
+}
+
+// The first header with a name in a table of a 64-bit little-endian file: `first_named`, which serves any table, makes
+// a call for each header.
+#[inline(always)]
+fn first_in_table(
+    sections: &[u8],
+    names: &TerminatedStrings<'_>,
+    name: &[u8],
+) -> Option<SectionHeader>
+    ensures { result ≡ find (has_name names.now name.now)
+        (table_items section_header_reads (table_in true ELF64 sections.now)) }
+{
+    for shdr in SectionHeaderTable::new(LittleEndian, Class::ELF64, sections).iter() {
+        if has_name(names, name, &shdr) {
+            return Some(shdr);
+        }
+    }
+    None
+}
+
+// The first section with a name among these.
+#[inline(always)]
+fn first_among(
+    file: &NugwierFile<'_>,
+    names: &StringTable<'_>,
+    name: &[u8],
+) -> Option<SectionHeader>
+    ensures { result ≡ first_named (loaded_of_c file.now).sections name.now (Some (strings_view names.now)) }
+{
+    let names = TerminatedStrings::new(names);
+    if file.has_sections && file.sections.little && file.sections.is_64 {
+        first_in_table(file.sections.bytes, &names, name)
+    } else {
+        file.first_named(&names, name)
+    }
+}
+
+// The first section with a name. Not inlined: it fills room for errors.
+#[inline(never)]
 fn section_named(file: &NugwierFile<'_>, name: &[u8]) -> Result<Option<SectionHeader>, ReadError>
     ensures { result ≡ section_header_by_name (loaded_of_c file.now) name.now }
 {
@@ -64,6 +147,29 @@ fn section_named(file: &NugwierFile<'_>, name: &[u8]) -> Result<Option<SectionHe
         }
         None => Ok(None),
     }
+}
+
+// Writes the section that was found.
+#[inline(always)]
+fn write_section(
+    header: &Option<SectionHeader>,
+    found: &mut bool,
+    section: &mut NugwierSection,
+) -> NugwierStatus
+    ensures status { result ≡ done }
+    ensures found { found.new ≡ is_some header.now }
+    ensures section { section.new ≡ some_or section.old (option_map section_shown header.now) }
+{
+    match header {
+        Some(header) => {
+            *found = true;
+            *section = header.show();
+        }
+        None => {
+            *found = false;
+        }
+    }
+    done()
 }
 
 /// Finds the first section of a file whose name has exactly these bytes. `found` says whether there is one; if there is
@@ -81,16 +187,11 @@ pub extern "C" fn nugwier_section_by_name(
     ensures section { section.new ≡ written (some_or section.old) section.old
         (ok_map (option_map section_shown) (section_header_by_name (loaded_of_c file.now) name.now)) }
 {
+    if let Some(names) = names_quickly(file) {
+        return write_section(&first_among(file, &names, name), found, section);
+    }
     match section_named(file, name) {
-        Ok(Some(header)) => {
-            *found = true;
-            *section = header.show();
-            done()
-        }
-        Ok(None) => {
-            *found = false;
-            done()
-        }
+        Ok(header) => write_section(&header, found, section),
         Err(error) => unread(&error),
     }
 }
