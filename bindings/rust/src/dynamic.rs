@@ -61,8 +61,12 @@ impl Record for Dyn {
         ffi::dynamic(table, index, place)
     }
 
-    fn fill(table: &ffi::Table<'_>, first: usize, places: &mut [ffi::Dynamic]) -> usize {
-        ffi::dynamics(table, first, places)
+    fn fill<const N: usize>(
+        table: &ffi::Table<'_>,
+        first: usize,
+        places: &mut ffi::Places<ffi::Dynamic, N>,
+    ) {
+        ffi::dynamics(table, first, places);
     }
 }
 

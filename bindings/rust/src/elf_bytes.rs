@@ -4,7 +4,7 @@ use crate::compression::CompressionHeader;
 use crate::dynamic::DynamicTable;
 use crate::endian::EndianParse;
 use crate::ffi;
-use crate::file::{parse_ident, FileHeader};
+use crate::file::{parse_ident, Class, FileHeader};
 use crate::gnu_symver::SymbolVersionTable;
 use crate::hash::{GnuHashTable, SysVHashTable};
 use crate::note::NoteIterator;
@@ -60,10 +60,16 @@ impl<'data, E: EndianParse> ElfBytes<'data, E> {
         })
     }
 
-    /// The file with the current header.
+    /// The file with the current header, of which the library uses these three fields.
+    #[inline]
     pub(crate) fn handle(&self) -> ffi::File<'data, 'data> {
         ffi::File {
-            header: self.ehdr.raw(),
+            header: ffi::Header {
+                little: self.ehdr.endianness.is_little(),
+                is_64: self.ehdr.class == Class::ELF64,
+                shstrndx: self.ehdr.e_shstrndx,
+                ..self.file.header
+            },
             ..self.file
         }
     }

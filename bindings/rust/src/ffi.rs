@@ -4,9 +4,11 @@
 //! by types: a `Bytes<'a>` is made of a slice of this lifetime or written by the library, which writes only parts of
 //! the bytes that it was given, or constants; its fields are private. A `bool` is a Rust `bool`. `&` and `&mut` overlap
 //! nothing.
-use crate::endian::EndianParse;
+use crate::endian::{EndianParse, LittleEndian};
 use crate::file::Class;
+use crate::hash::GnuHashTable;
 use core::marker::PhantomData;
+use core::mem::MaybeUninit;
 
 /// Bytes that live as long as `'a`.
 #[repr(C)]
@@ -49,6 +51,55 @@ impl Default for Bytes<'_> {
 impl core::fmt::Debug for Bytes<'_> {
     fn fmt(&self, f: &mut core::fmt::Formatter<'_>) -> core::fmt::Result {
         self.get().fmt(f)
+    }
+}
+
+/// Records that one call fetched, at most `N`, or none yet. No place is written before: a table may have few records.
+pub struct Places<T, const N: usize> {
+    places: [MaybeUninit<T>; N],
+    /// The first so many are written. There are no more than `N`.
+    filled: usize,
+}
+
+impl<T: Copy, const N: usize> Places<T, N> {
+    pub fn new() -> Self {
+        Places {
+            places: [MaybeUninit::uninit(); N],
+            filled: 0,
+        }
+    }
+
+    /// Has a call fill the places that a pointer and their number give.
+    ///
+    /// # Safety
+    ///
+    /// The call writes as many of the places as it returns, from the first on.
+    unsafe fn fill(&mut self, call: impl FnOnce(*mut T, usize) -> usize) {
+        self.filled = 0;
+        self.filled = call(self.places.as_mut_ptr().cast(), N);
+    }
+
+    /// The record of an index, if that many were fetched.
+    #[inline]
+    pub fn get(&self, index: usize) -> Option<&T> {
+        if index < self.filled {
+            // SAFETY: the first `filled` of the places are written, and there are no more than `N`.
+            Some(unsafe { self.places.get_unchecked(index).assume_init_ref() })
+        } else {
+            None
+        }
+    }
+
+    pub fn filled(&self) -> usize {
+        self.filled
+    }
+}
+
+impl<T, const N: usize> core::fmt::Debug for Places<T, N> {
+    fn fmt(&self, f: &mut core::fmt::Formatter<'_>) -> core::fmt::Result {
+        f.debug_struct("Places")
+            .field("filled", &self.filled)
+            .finish()
     }
 }
 
@@ -512,13 +563,13 @@ extern "C" {
         sysv: &mut Sysv<'_>,
     ) -> Status;
     fn nugwier_gnu_look_up(
-        gnu: &Gnu<'_>,
+        gnu: *const Gnu<'_>,
         symbols: &Table<'_>,
         strings: *const u8,
         strings_len: usize,
         name: *const u8,
         name_len: usize,
-        found: &mut Found,
+        found: *mut Found,
     ) -> Status;
     fn nugwier_sysv_look_up(
         sysv: &Sysv<'_>,
@@ -527,7 +578,7 @@ extern "C" {
         strings_len: usize,
         name: *const u8,
         name_len: usize,
-        found: &mut Found,
+        found: *mut Found,
     ) -> Status;
     fn nugwier_common(file: &File<'_, '_>, common: &mut Common<'_>) -> Status;
     fn nugwier_e_osabi_name(e_osabi: u8, name: &mut Name<'static>);
@@ -610,7 +661,7 @@ extern "C" {
         strings: *const u8,
         strings_len: usize,
         offset: usize,
-        string: &mut Bytes<'_>,
+        string: *mut Bytes<'_>,
     ) -> Status;
     fn nugwier_symbol_table(
         file: &File<'_, '_>,
@@ -658,6 +709,20 @@ extern "C" {
         found: &mut bool,
         name: &mut Bytes<'_>,
     ) -> Status;
+}
+
+/// What a call wrote, if it succeeded.
+///
+/// # Safety
+///
+/// The call writes its result if its status is that of success.
+#[inline(always)]
+unsafe fn written<T>(status: Status, result: MaybeUninit<T>) -> Result<T, Status> {
+    if status.code == 0 {
+        Ok(result.assume_init())
+    } else {
+        Err(status)
+    }
 }
 
 pub fn section_data<'a>(file: &File<'_, 'a>, section: &Section, part: &mut Data<'a>) -> Status {
@@ -730,28 +795,46 @@ pub fn sysv_open<'a>(little: bool, is_64: bool, section: Bytes<'a>, sysv: &mut S
     unsafe { nugwier_sysv_open(little, is_64, section.at, section.len, sysv) }
 }
 
-pub fn gnu_look_up(
-    gnu: &Gnu<'_>,
+// A field more or less would be seen here.
+const _: () = assert!(
+    core::mem::size_of::<GnuHashTable<'static, LittleEndian>>()
+        == core::mem::size_of::<Gnu<'static>>()
+);
+
+#[inline]
+pub fn gnu_look_up<E: EndianParse>(
+    gnu: &GnuHashTable<'_, E>,
     symbols: &Table<'_>,
     strings: Bytes<'_>,
     name: Bytes<'_>,
-    found: &mut Found,
-) -> Status {
+) -> Result<Found, Status> {
+    let gnu: *const GnuHashTable<'_, E> = gnu;
     let (at, len) = (strings.at, strings.len);
-    // SAFETY: the export accepts all values of these types, and writes values of these types.
-    unsafe { nugwier_gnu_look_up(gnu, symbols, at, len, name.at, name.len, found) }
+    let mut found = MaybeUninit::uninit();
+    let place = found.as_mut_ptr();
+    // SAFETY: the table has the fields of `Gnu` in their order, and both are `repr(C)`. The export accepts all values of
+    // these types, and writes what was found if it succeeds.
+    unsafe {
+        let status = nugwier_gnu_look_up(gnu.cast(), symbols, at, len, name.at, name.len, place);
+        written(status, found)
+    }
 }
 
+#[inline]
 pub fn sysv_look_up(
     sysv: &Sysv<'_>,
     symbols: &Table<'_>,
     strings: Bytes<'_>,
     name: Bytes<'_>,
-    found: &mut Found,
-) -> Status {
+) -> Result<Found, Status> {
     let (at, len) = (strings.at, strings.len);
-    // SAFETY: the export accepts all values of these types, and writes values of these types.
-    unsafe { nugwier_sysv_look_up(sysv, symbols, at, len, name.at, name.len, found) }
+    let mut found = MaybeUninit::uninit();
+    let place = found.as_mut_ptr();
+    // SAFETY: the export accepts all values of these types, and writes what was found if it succeeds.
+    unsafe {
+        let status = nugwier_sysv_look_up(sysv, symbols, at, len, name.at, name.len, place);
+        written(status, found)
+    }
 }
 
 pub fn common<'a>(file: &File<'_, 'a>, common: &mut Common<'a>) -> Status {
@@ -895,45 +978,45 @@ pub fn dynamic(table: &Table<'_>, index: usize, dynamic: &mut Dynamic) -> Status
     unsafe { nugwier_dynamic(table, index, dynamic) }
 }
 
-pub fn symbols(table: &Table<'_>, first: usize, places: &mut [Symbol]) -> usize {
-    // SAFETY: the export accepts all values of these types, and writes values of these types into the places.
-    unsafe { nugwier_symbols(table, first, places.as_mut_ptr(), places.len()) }
+pub fn symbols<const N: usize>(table: &Table<'_>, first: usize, places: &mut Places<Symbol, N>) {
+    // SAFETY: the export accepts all values of these types, and fills as many of the places as it returns.
+    unsafe { places.fill(|at, len| nugwier_symbols(table, first, at, len)) }
 }
 
-pub fn named_symbols<'a>(
+pub fn named_symbols<'a, const N: usize>(
     table: &Table<'_>,
     strings: Bytes<'a>,
     first: usize,
-    places: &mut [NamedSymbol<'a>],
-) -> usize {
-    let (at, len) = (places.as_mut_ptr(), places.len());
-    // SAFETY: the export accepts all values of these types, and writes values of these types into the places.
-    unsafe { nugwier_named_symbols(table, strings.at, strings.len, first, at, len) }
+    places: &mut Places<NamedSymbol<'a>, N>,
+) {
+    let (bytes, bytes_len) = (strings.at, strings.len);
+    // SAFETY: the export accepts all values of these types, and fills as many of the places as it returns.
+    unsafe { places.fill(|at, len| nugwier_named_symbols(table, bytes, bytes_len, first, at, len)) }
 }
 
-pub fn sections(table: &Table<'_>, first: usize, places: &mut [Section]) -> usize {
-    // SAFETY: the export accepts all values of these types, and writes values of these types into the places.
-    unsafe { nugwier_sections(table, first, places.as_mut_ptr(), places.len()) }
+pub fn sections<const N: usize>(table: &Table<'_>, first: usize, places: &mut Places<Section, N>) {
+    // SAFETY: the export accepts all values of these types, and fills as many of the places as it returns.
+    unsafe { places.fill(|at, len| nugwier_sections(table, first, at, len)) }
 }
 
-pub fn segments(table: &Table<'_>, first: usize, places: &mut [Segment]) -> usize {
-    // SAFETY: the export accepts all values of these types, and writes values of these types into the places.
-    unsafe { nugwier_segments(table, first, places.as_mut_ptr(), places.len()) }
+pub fn segments<const N: usize>(table: &Table<'_>, first: usize, places: &mut Places<Segment, N>) {
+    // SAFETY: the export accepts all values of these types, and fills as many of the places as it returns.
+    unsafe { places.fill(|at, len| nugwier_segments(table, first, at, len)) }
 }
 
-pub fn rels(table: &Table<'_>, first: usize, places: &mut [Rel]) -> usize {
-    // SAFETY: the export accepts all values of these types, and writes values of these types into the places.
-    unsafe { nugwier_rels(table, first, places.as_mut_ptr(), places.len()) }
+pub fn rels<const N: usize>(table: &Table<'_>, first: usize, places: &mut Places<Rel, N>) {
+    // SAFETY: the export accepts all values of these types, and fills as many of the places as it returns.
+    unsafe { places.fill(|at, len| nugwier_rels(table, first, at, len)) }
 }
 
-pub fn relas(table: &Table<'_>, first: usize, places: &mut [Rela]) -> usize {
-    // SAFETY: the export accepts all values of these types, and writes values of these types into the places.
-    unsafe { nugwier_relas(table, first, places.as_mut_ptr(), places.len()) }
+pub fn relas<const N: usize>(table: &Table<'_>, first: usize, places: &mut Places<Rela, N>) {
+    // SAFETY: the export accepts all values of these types, and fills as many of the places as it returns.
+    unsafe { places.fill(|at, len| nugwier_relas(table, first, at, len)) }
 }
 
-pub fn dynamics(table: &Table<'_>, first: usize, places: &mut [Dynamic]) -> usize {
-    // SAFETY: the export accepts all values of these types, and writes values of these types into the places.
-    unsafe { nugwier_dynamics(table, first, places.as_mut_ptr(), places.len()) }
+pub fn dynamics<const N: usize>(table: &Table<'_>, first: usize, places: &mut Places<Dynamic, N>) {
+    // SAFETY: the export accepts all values of these types, and fills as many of the places as it returns.
+    unsafe { places.fill(|at, len| nugwier_dynamics(table, first, at, len)) }
 }
 
 pub fn symbol_count(table: &Table<'_>) -> usize {
@@ -966,9 +1049,14 @@ pub fn dynamic_count(table: &Table<'_>) -> usize {
     unsafe { nugwier_dynamic_count(table) }
 }
 
-pub fn string<'a>(strings: Bytes<'a>, offset: usize, string: &mut Bytes<'a>) -> Status {
-    // SAFETY: the export accepts all values of these types, and writes values of these types.
-    unsafe { nugwier_string(strings.at, strings.len, offset, string) }
+#[inline]
+pub fn string(strings: Bytes<'_>, offset: usize) -> Result<Bytes<'_>, Status> {
+    let mut string = MaybeUninit::uninit();
+    // SAFETY: the export accepts all values of these types, and writes the string if it succeeds.
+    unsafe {
+        let status = nugwier_string(strings.at, strings.len, offset, string.as_mut_ptr());
+        written(status, string)
+    }
 }
 
 pub fn symbol_table<'a>(

@@ -200,6 +200,7 @@ impl<E: EndianParse> FileHeader<E> {
         }
     }
 
+    #[cfg(feature = "std")]
     pub(crate) fn raw(&self) -> ffi::Header {
         ffi::Header {
             little: self.endianness.is_little(),

@@ -94,7 +94,7 @@ impl<'data, E: EndianParse> SymbolVersionTable<'data, E> {
         SymbolVersionTable {
             versions: ffi::Versions {
                 found: true,
-                indexes: version_ids.raw(),
+                indexes: *version_ids.raw(),
                 needs: needs.unwrap_or_default(),
                 definitions: definitions.unwrap_or_default(),
             },
@@ -110,6 +110,11 @@ impl<'data, E: EndianParse> SymbolVersionTable<'data, E> {
             VerNeedIterator::new(endian, class, needs.count, 0, needs.entries.bytes.get())
         });
         SymbolVersionTable { versions, verneeds }
+    }
+
+    #[cfg(feature = "std")]
+    pub(crate) fn raw(&self) -> &ffi::Versions<'data> {
+        &self.versions
     }
 
     /// The version that a symbol needs of another file.

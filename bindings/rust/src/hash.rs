@@ -2,7 +2,7 @@
 use crate::endian::EndianParse;
 use crate::ffi;
 use crate::file::Class;
-use crate::parse::{checked, ParseAt, ParseError};
+use crate::parse::{checked, refused, ParseAt, ParseError};
 use crate::records::Record;
 use crate::string_table::StringTable;
 use crate::symbol::{Symbol, SymbolTable};
@@ -56,10 +56,15 @@ pub fn gnu_hash(name: &[u8]) -> u32 {
 }
 
 /// What a look-up found, if anything.
-fn found_in(found: &ffi::Found) -> Option<(usize, Symbol)> {
-    found
-        .found
-        .then(|| (found.index, Symbol::of(&found.symbol)))
+#[inline]
+fn found_in(
+    answer: Result<ffi::Found, ffi::Status>,
+) -> Result<Option<(usize, Symbol)>, ParseError> {
+    match answer {
+        Ok(found) if found.found => Ok(Some((found.index, Symbol::of(&found.symbol)))),
+        Ok(_) => Ok(None),
+        Err(status) => Err(refused(status)),
+    }
 }
 
 /// The header of a SysV hash section.
@@ -123,19 +128,17 @@ impl<'data, E: EndianParse> SysVHashTable<'data, E> {
         symtab: &SymbolTable<'data, E>,
         strtab: &StringTable<'data>,
     ) -> Result<Option<(usize, Symbol)>, ParseError> {
-        let mut found = ffi::Found::default();
-        checked(ffi::sysv_look_up(
+        found_in(ffi::sysv_look_up(
             &self.table,
-            &symtab.raw(),
+            symtab.raw(),
             strtab.bytes(),
             ffi::Bytes::new(name),
-            &mut found,
-        ))?;
-        Ok(found_in(&found))
+        ))
     }
 }
 
 /// The header of a GNU hash section.
+#[repr(C)]
 #[derive(Clone, Debug, PartialEq, Eq)]
 pub struct GnuHashHeader {
     /// The number of buckets.
@@ -169,11 +172,17 @@ impl ParseAt for GnuHashHeader {
 }
 
 /// The table of a GNU hash section.
+// With the layout of `ffi::Gnu`, so that a look-up hands it over as it is, and with the current numbers of `hdr`.
+#[repr(C)]
 #[derive(Debug)]
 pub struct GnuHashTable<'data, E: EndianParse> {
+    little: bool,
+    is_64: bool,
     /// The numbers that look-ups use.
     pub hdr: GnuHashHeader,
-    table: ffi::Gnu<'data>,
+    bloom: ffi::Bytes<'data>,
+    buckets: ffi::Bytes<'data>,
+    chains: ffi::Bytes<'data>,
     order: PhantomData<E>,
 }
 
@@ -192,25 +201,18 @@ impl<'data, E: EndianParse> GnuHashTable<'data, E> {
 
     pub(crate) fn of(table: ffi::Gnu<'data>) -> Self {
         GnuHashTable {
+            little: table.little,
+            is_64: table.is_64,
             hdr: GnuHashHeader {
                 nbucket: table.nbucket,
                 table_start_idx: table.first,
                 nbloom: table.nbloom,
                 nshift: table.nshift,
             },
-            table,
+            bloom: table.bloom,
+            buckets: table.buckets,
+            chains: table.chains,
             order: PhantomData,
-        }
-    }
-
-    /// The table with the current numbers of `hdr`.
-    fn handle(&self) -> ffi::Gnu<'data> {
-        ffi::Gnu {
-            nbucket: self.hdr.nbucket,
-            first: self.hdr.table_start_idx,
-            nbloom: self.hdr.nbloom,
-            nshift: self.hdr.nshift,
-            ..self.table
         }
     }
 
@@ -221,14 +223,11 @@ impl<'data, E: EndianParse> GnuHashTable<'data, E> {
         symtab: &SymbolTable<'data, E>,
         strtab: &StringTable<'data>,
     ) -> Result<Option<(usize, Symbol)>, ParseError> {
-        let mut found = ffi::Found::default();
-        checked(ffi::gnu_look_up(
-            &self.handle(),
-            &symtab.raw(),
+        found_in(ffi::gnu_look_up(
+            self,
+            symtab.raw(),
             strtab.bytes(),
             ffi::Bytes::new(name),
-            &mut found,
-        ))?;
-        Ok(found_in(&found))
+        ))
     }
 }

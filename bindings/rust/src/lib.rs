@@ -5,7 +5,8 @@
 //! notes, versions and hash sections. This crate gives their results Rust's types, and reads the records of other types
 //! by their own `parse_at`. Its uses of `unsafe` are all in `ffi.rs`.
 //!
-//! The modules [`check`], [`fault_kinds`], [`linking`], [`named`] and [`names`] have what `elf` does not have.
+//! The modules [`check`], [`fault_kinds`], [`linking`], [`named`] and [`names`], and with `std` also `versions`, have what
+//! `elf` does not have.
 #![cfg_attr(not(feature = "std"), no_std)]
 #![deny(unsafe_code)]
 #![warn(missing_docs, missing_debug_implementations, rust_2018_idioms)]
@@ -46,6 +47,8 @@ pub mod string_table;
 pub mod symbol;
 #[cfg(feature = "to_str")]
 pub mod to_str;
+#[cfg(feature = "std")]
+pub mod versions;
 
 pub use elf_bytes::{CommonElfData, ElfBytes};
 #[cfg(feature = "std")]

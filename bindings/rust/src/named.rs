@@ -1,7 +1,7 @@
 //! Symbols with their names, many in a call, and symbols by address.
 use crate::endian::EndianParse;
 use crate::ffi;
-use crate::records::{Record, CHUNK};
+use crate::records::{Record, HEADERS};
 use crate::string_table::StringTable;
 use crate::symbol::{Symbol, SymbolTable};
 
@@ -23,12 +23,11 @@ pub fn named_symbols<'data, E: EndianParse>(
     strings: &StringTable<'data>,
 ) -> NamedSymbols<'data> {
     NamedSymbols {
-        table: symbols.raw(),
+        table: *symbols.raw(),
         strings: strings.bytes(),
         next: 0,
-        chunk: [ffi::NamedSymbol::default(); CHUNK],
+        chunk: ffi::Places::new(),
         taken: 0,
-        fetched: 0,
     }
 }
 
@@ -39,10 +38,20 @@ pub struct NamedSymbols<'data> {
     strings: ffi::Bytes<'data>,
     /// The number of the first symbol that is not fetched yet.
     next: usize,
-    chunk: [ffi::NamedSymbol<'data>; CHUNK],
-    /// How many symbols of the chunk were taken, and how many were fetched.
+    chunk: ffi::Places<ffi::NamedSymbol<'data>, HEADERS>,
+    /// How many symbols of the chunk were taken.
     taken: usize,
-    fetched: usize,
+}
+
+impl<'data> NamedSymbols<'data> {
+    /// Fetches the next symbols.
+    #[cold]
+    #[inline(never)]
+    fn fetch(&mut self) {
+        self.taken = 0;
+        ffi::named_symbols(&self.table, self.strings, self.next, &mut self.chunk);
+        self.next += self.chunk.filled();
+    }
 }
 
 impl<'data> Iterator for NamedSymbols<'data> {
@@ -50,14 +59,8 @@ impl<'data> Iterator for NamedSymbols<'data> {
 
     #[inline]
     fn next(&mut self) -> Option<(Symbol, &'data [u8])> {
-        if self.taken == self.fetched {
-            self.taken = 0;
-            self.fetched =
-                ffi::named_symbols(&self.table, self.strings, self.next, &mut self.chunk);
-            self.next += self.fetched;
-            if self.fetched == 0 {
-                return None;
-            }
+        if self.taken == self.chunk.filled() {
+            self.fetch();
         }
         let raw = self.chunk.get(self.taken)?;
         self.taken += 1;
@@ -73,7 +76,7 @@ pub fn symbol_at<E: EndianParse>(
     address: u64,
 ) -> Option<(usize, Symbol)> {
     let mut found = ffi::Found::default();
-    ffi::symbol_at(&symbols.raw(), address, &mut found);
+    ffi::symbol_at(symbols.raw(), address, &mut found);
     found
         .found
         .then(|| (found.index, Symbol::of(&found.symbol)))

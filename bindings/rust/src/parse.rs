@@ -143,7 +143,7 @@ pub(crate) fn checked(status: ffi::Status) -> Result<(), ParseError> {
 /// The error that a status stands for.
 #[cold]
 #[inline(never)]
-fn refused(status: ffi::Status) -> ParseError {
+pub(crate) fn refused(status: ffi::Status) -> ParseError {
     let (first, second) = (status.first, status.second);
     match status.code {
         1 => ParseError::BadMagic((first as u32).to_le_bytes()),
@@ -197,8 +197,8 @@ pub trait ParseAt: Sized {
 /// A table of records of one type. A record is read when it is requested.
 pub struct ParsingTable<'data, E: EndianParse, P: ParseAt> {
     endian: E,
-    class: Class,
-    data: &'data [u8],
+    /// The bytes, with this order, as the calls of the library take them.
+    raw: ffi::Table<'data>,
     kind: PhantomData<&'data P>,
 }
 
@@ -206,8 +206,8 @@ impl<E: EndianParse + fmt::Debug, P: ParseAt> fmt::Debug for ParsingTable<'_, E,
     fn fmt(&self, f: &mut fmt::Formatter<'_>) -> fmt::Result {
         f.debug_struct("ParsingTable")
             .field("endian", &self.endian)
-            .field("class", &self.class)
-            .field("data", &self.data)
+            .field("class", &self.class())
+            .field("data", &self.raw.bytes)
             .finish()
     }
 }
@@ -225,8 +225,7 @@ impl<'data, E: EndianParse, P: ParseAt> ParsingTable<'data, E, P> {
     pub fn new(endian: E, class: Class, data: &'data [u8]) -> Self {
         ParsingTable {
             endian,
-            class,
-            data,
+            raw: ffi::Table::new(endian, class, data),
             kind: PhantomData,
         }
     }
@@ -236,18 +235,24 @@ impl<'data, E: EndianParse, P: ParseAt> ParsingTable<'data, E, P> {
         ParsingTable::new(endian, Class::of(table.is_64), table.bytes.get())
     }
 
-    pub(crate) fn raw(&self) -> ffi::Table<'data> {
-        ffi::Table::new(self.endian, self.class, self.data)
+    #[inline]
+    pub(crate) fn raw(&self) -> &ffi::Table<'data> {
+        &self.raw
+    }
+
+    #[inline]
+    fn class(&self) -> Class {
+        Class::of(self.raw.is_64)
     }
 
     /// The records in order, up to the first that cannot be read.
     pub fn iter(&self) -> ParsingIterator<'data, E, P> {
-        ParsingIterator::new(self.endian, self.class, self.data)
+        ParsingIterator::new(self.endian, self.class(), self.raw.bytes.get())
     }
 
     /// How many records fit.
     pub fn len(&self) -> usize {
-        self.data.len() / P::size_for(self.class)
+        self.raw.bytes.get().len() / P::size_for(self.class())
     }
 
     /// Whether no record fits.
@@ -258,18 +263,19 @@ impl<'data, E: EndianParse, P: ParseAt> ParsingTable<'data, E, P> {
     /// The record of an index, counted from 0.
     pub fn get(&self, index: usize) -> Result<P, ParseError> {
         if let Some(calls) = P::library_calls() {
-            return (calls.get)(&self.raw(), index);
+            return (calls.get)(&self.raw, index);
         }
-        if self.data.is_empty() {
+        let data = self.raw.bytes.get();
+        if data.is_empty() {
             return Err(ParseError::BadOffset(index as u64));
         }
         let mut offset = index
-            .checked_mul(P::size_for(self.class))
+            .checked_mul(P::size_for(self.class()))
             .ok_or(ParseError::IntegerOverflow)?;
-        if offset > self.data.len() {
+        if offset > data.len() {
             return Err(ParseError::BadOffset(index as u64));
         }
-        P::parse_at(self.endian, self.class, &mut offset, self.data)
+        P::parse_at(self.endian, self.class(), &mut offset, data)
     }
 }
 
@@ -289,7 +295,7 @@ pub struct ParsingIterator<'data, E: EndianParse, P: ParseAt> {
     /// Where the first record begins that is not fetched yet.
     offset: usize,
     chunk: Chunk,
-    /// How many records of the chunk were taken, and how many were fetched.
+    /// How many records of the chunk were taken, and how many it has.
     taken: usize,
     fetched: usize,
     ended: bool,
@@ -319,11 +325,12 @@ impl<'data, E: EndianParse, P: ParseAt> ParsingIterator<'data, E, P> {
     }
 
     /// Fetches the next records, and returns whether there are any.
+    #[inline(never)]
     fn fetch(&mut self, calls: &Calls<P>) -> bool {
         if !self.ended {
-            let size = P::size_for(self.table.class);
+            let size = P::size_for(self.table.class());
             self.taken = 0;
-            self.fetched = (calls.fill)(&self.table.raw(), self.offset / size, &mut self.chunk);
+            self.fetched = (calls.fill)(&self.table.raw, self.offset / size, &mut self.chunk);
             self.offset += self.fetched * size;
             self.ended = self.fetched == 0;
         }
@@ -336,7 +343,8 @@ impl<'data, E: EndianParse, P: ParseAt> ParsingIterator<'data, E, P> {
             return None;
         }
         let table = &self.table;
-        let record = P::parse_at(table.endian, table.class, &mut self.offset, table.data);
+        let data = table.raw.bytes.get();
+        let record = P::parse_at(table.endian, table.class(), &mut self.offset, data);
         self.ended = record.is_err();
         record.ok()
     }
@@ -351,11 +359,14 @@ impl<E: EndianParse, P: ParseAt> Iterator for ParsingIterator<'_, E, P> {
             Some(calls) => calls,
             None => return self.parse_next(),
         };
-        if self.taken == self.fetched && !self.fetch(&calls) {
-            return None;
+        loop {
+            if let Some(record) = (calls.of_chunk)(&self.chunk, self.taken) {
+                self.taken += 1;
+                return Some(record);
+            }
+            if !self.fetch(&calls) {
+                return None;
+            }
         }
-        let record = (calls.of_chunk)(&self.chunk, self.taken)?;
-        self.taken += 1;
-        Some(record)
     }
 }

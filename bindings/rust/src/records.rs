@@ -4,20 +4,21 @@ use crate::ffi;
 use crate::file::Class;
 use crate::parse::{checked, ParseAt, ParseError};
 
-/// How many records are fetched at once.
-pub const CHUNK: usize = 32;
+/// How many records are fetched at once: of headers, which are large, and of the others.
+pub const HEADERS: usize = 32;
+pub const RECORDS: usize = 64;
 
 /// Records as C shows them, fetched at once. An iterator holds them in place, as a build without `alloc` has to.
 #[derive(Debug)]
 #[allow(clippy::large_enum_variant)]
 pub enum Chunk {
     Empty,
-    Symbols([ffi::Symbol; CHUNK]),
-    Sections([ffi::Section; CHUNK]),
-    Segments([ffi::Segment; CHUNK]),
-    Rels([ffi::Rel; CHUNK]),
-    Relas([ffi::Rela; CHUNK]),
-    Dynamics([ffi::Dynamic; CHUNK]),
+    Symbols(ffi::Places<ffi::Symbol, RECORDS>),
+    Sections(ffi::Places<ffi::Section, HEADERS>),
+    Segments(ffi::Places<ffi::Segment, HEADERS>),
+    Rels(ffi::Places<ffi::Rel, RECORDS>),
+    Relas(ffi::Places<ffi::Rela, RECORDS>),
+    Dynamics(ffi::Places<ffi::Dynamic, RECORDS>),
 }
 
 /// A record that the library reads.
@@ -31,20 +32,21 @@ pub trait Record: ParseAt {
     /// Reads the record of an index of a table.
     fn get(table: &ffi::Table<'_>, index: usize, place: &mut Self::Raw) -> ffi::Status;
 
-    /// Fills places with the records of a table, the first of them number `first`, and returns how many these are.
-    fn fill(table: &ffi::Table<'_>, first: usize, places: &mut [Self::Raw]) -> usize;
+    /// Fills places with the records of a table, the first of them number `first`.
+    fn fill<const N: usize>(
+        table: &ffi::Table<'_>,
+        first: usize,
+        places: &mut ffi::Places<Self::Raw, N>,
+    );
 }
 
 /// A record whose chunk has a variant.
 pub trait Chunked: Record {
-    /// The chunk with these structs.
-    fn chunk(raw: [Self::Raw; CHUNK]) -> Chunk;
+    /// Fetches the records of a table into a chunk, the first of them number `first`, and returns how many these are.
+    fn fetch(table: &ffi::Table<'_>, first: usize, chunk: &mut Chunk) -> usize;
 
-    /// The structs of a chunk, if it has structs of this type.
-    fn raw(chunk: &Chunk) -> Option<&[Self::Raw; CHUNK]>;
-
-    /// The same, to be filled.
-    fn raw_mut(chunk: &mut Chunk) -> Option<&mut [Self::Raw; CHUNK]>;
+    /// The record of an index of a chunk.
+    fn of_chunk(chunk: &Chunk, index: usize) -> Option<Self>;
 }
 
 /// The calls for records of one type. Rust 1.63 has no `Debug` for such pointers to functions.
@@ -60,8 +62,8 @@ impl<P: Chunked> Calls<P> {
     pub fn new() -> Self {
         Calls {
             get: record::<P>,
-            fill: fill::<P>,
-            of_chunk: of_chunk::<P>,
+            fill: P::fetch,
+            of_chunk: P::of_chunk,
         }
     }
 }
@@ -71,20 +73,6 @@ fn record<P: Record>(table: &ffi::Table<'_>, index: usize) -> Result<P, ParseErr
     let mut raw = P::Raw::default();
     checked(P::get(table, index, &mut raw))?;
     Ok(P::of(&raw))
-}
-
-/// Fetches the records of a table, the first of them number `first`, and returns how many these are.
-fn fill<P: Chunked>(table: &ffi::Table<'_>, first: usize, chunk: &mut Chunk) -> usize {
-    if P::raw(chunk).is_none() {
-        *chunk = P::chunk([P::Raw::default(); CHUNK]);
-    }
-    P::raw_mut(chunk).map_or(0, |places| P::fill(table, first, places))
-}
-
-/// The record of an index of a chunk.
-#[inline]
-fn of_chunk<P: Chunked>(chunk: &Chunk, index: usize) -> Option<P> {
-    P::raw(chunk)?.get(index).map(P::of)
 }
 
 /// Reads the record at an offset, which is moved past it. After an error it is that of the number that is missing.
@@ -118,23 +106,30 @@ pub fn parse_at<E: EndianParse, P: Record>(
 macro_rules! read_by_the_library {
     ($record:ty, $variant:ident, $size_32:literal, $size_64:literal) => {
         impl $crate::records::Chunked for $record {
-            fn chunk(raw: [Self::Raw; $crate::records::CHUNK]) -> $crate::records::Chunk {
-                $crate::records::Chunk::$variant(raw)
-            }
-
-            #[inline]
-            fn raw(chunk: &$crate::records::Chunk) -> Option<&[Self::Raw; $crate::records::CHUNK]> {
+            fn fetch(
+                table: &$crate::ffi::Table<'_>,
+                first: usize,
+                chunk: &mut $crate::records::Chunk,
+            ) -> usize {
+                use $crate::records::Chunk;
+                if !matches!(chunk, Chunk::$variant(_)) {
+                    *chunk = Chunk::$variant($crate::ffi::Places::new());
+                }
                 match chunk {
-                    $crate::records::Chunk::$variant(raw) => Some(raw),
-                    _ => None,
+                    Chunk::$variant(places) => {
+                        <Self as $crate::records::Record>::fill(table, first, places);
+                        places.filled()
+                    }
+                    _ => 0,
                 }
             }
 
-            fn raw_mut(
-                chunk: &mut $crate::records::Chunk,
-            ) -> Option<&mut [Self::Raw; $crate::records::CHUNK]> {
+            #[inline]
+            fn of_chunk(chunk: &$crate::records::Chunk, index: usize) -> Option<Self> {
                 match chunk {
-                    $crate::records::Chunk::$variant(raw) => Some(raw),
+                    $crate::records::Chunk::$variant(places) => {
+                        places.get(index).map(<Self as $crate::records::Record>::of)
+                    }
                     _ => None,
                 }
             }

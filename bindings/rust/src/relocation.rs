@@ -87,8 +87,12 @@ impl Record for Rel {
         ffi::rel(table, index, place)
     }
 
-    fn fill(table: &ffi::Table<'_>, first: usize, places: &mut [ffi::Rel]) -> usize {
-        ffi::rels(table, first, places)
+    fn fill<const N: usize>(
+        table: &ffi::Table<'_>,
+        first: usize,
+        places: &mut ffi::Places<ffi::Rel, N>,
+    ) {
+        ffi::rels(table, first, places);
     }
 }
 
@@ -111,8 +115,12 @@ impl Record for Rela {
         ffi::rela(table, index, place)
     }
 
-    fn fill(table: &ffi::Table<'_>, first: usize, places: &mut [ffi::Rela]) -> usize {
-        ffi::relas(table, first, places)
+    fn fill<const N: usize>(
+        table: &ffi::Table<'_>,
+        first: usize,
+        places: &mut ffi::Places<ffi::Rela, N>,
+    ) {
+        ffi::relas(table, first, places);
     }
 }
 

@@ -111,8 +111,12 @@ impl Record for SectionHeader {
         ffi::section(&file, index, place)
     }
 
-    fn fill(table: &ffi::Table<'_>, first: usize, places: &mut [ffi::Section]) -> usize {
-        ffi::sections(table, first, places)
+    fn fill<const N: usize>(
+        table: &ffi::Table<'_>,
+        first: usize,
+        places: &mut ffi::Places<ffi::Section, N>,
+    ) {
+        ffi::sections(table, first, places);
     }
 }
 

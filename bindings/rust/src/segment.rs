@@ -99,8 +99,12 @@ impl Record for ProgramHeader {
         ffi::segment(&file, index, place)
     }
 
-    fn fill(table: &ffi::Table<'_>, first: usize, places: &mut [ffi::Segment]) -> usize {
-        ffi::segments(table, first, places)
+    fn fill<const N: usize>(
+        table: &ffi::Table<'_>,
+        first: usize,
+        places: &mut ffi::Places<ffi::Segment, N>,
+    ) {
+        ffi::segments(table, first, places);
     }
 }
 

@@ -1,6 +1,6 @@
 //! Tables of strings.
 use crate::ffi;
-use crate::parse::{checked, ParseError};
+use crate::parse::{refused, ParseError};
 
 /// A table of strings, each of which ends in a 0 byte.
 #[derive(Clone, Copy, Debug, Default)]
@@ -19,10 +19,12 @@ impl<'data> StringTable<'data> {
     }
 
     /// The bytes of the string at an offset, without the 0 byte.
+    #[inline]
     pub fn get_raw(&self, offset: usize) -> Result<&'data [u8], ParseError> {
-        let mut found = ffi::Bytes::default();
-        checked(ffi::string(self.bytes(), offset, &mut found))?;
-        Ok(found.get())
+        match ffi::string(self.bytes(), offset) {
+            Ok(found) => Ok(found.get()),
+            Err(status) => Err(refused(status)),
+        }
     }
 
     /// The string at an offset as text.

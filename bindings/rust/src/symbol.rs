@@ -90,8 +90,12 @@ impl Record for Symbol {
         ffi::symbol(table, index, place)
     }
 
-    fn fill(table: &ffi::Table<'_>, first: usize, places: &mut [ffi::Symbol]) -> usize {
-        ffi::symbols(table, first, places)
+    fn fill<const N: usize>(
+        table: &ffi::Table<'_>,
+        first: usize,
+        places: &mut ffi::Places<ffi::Symbol, N>,
+    ) {
+        ffi::symbols(table, first, places);
     }
 }
 

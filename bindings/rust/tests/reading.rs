@@ -7,6 +7,7 @@ use nugwier::fault_kinds;
 use nugwier::linking::{build_id, dynamic_names, Library};
 use nugwier::named::{named_symbols, symbol_at};
 use nugwier::note::Note;
+use nugwier::versions::KeptVersions;
 use nugwier::{ElfBytes, ParseError};
 
 fn own_file() -> Vec<u8> {
@@ -144,6 +145,28 @@ fn versions_and_notes_are_read() {
         .unwrap()
         .iter()
         .any(|one| one.d_tag == abi::DT_NEEDED));
+}
+
+#[test]
+fn versions_that_are_kept_are_those_of_the_table() {
+    let bytes = own_file();
+    let file = ElfBytes::<AnyEndian>::minimal_parse(&bytes).unwrap();
+    let (symbols, _) = file.dynamic_symbol_table().unwrap().unwrap();
+    let table = file.symbol_version_table().unwrap().unwrap();
+    let mut versions = KeptVersions::new(&table);
+    // the second time each is taken from what is kept
+    for symbol in (0..symbols.len()).chain(0..symbols.len()) {
+        let needed = table.get_requirement(symbol).unwrap();
+        let defined = table.get_definition(symbol).unwrap();
+        let found = versions.get(symbol).unwrap();
+        assert_eq!(found.is_some(), needed.is_some() || defined.is_some());
+        if let (Some(found), Some(needed)) = (found, needed) {
+            assert_eq!((found.file, found.name), (Some(needed.file), needed.name));
+            assert_eq!((found.hash, found.flags), (needed.hash, needed.flags));
+            assert_eq!(found.hidden, needed.hidden);
+        }
+    }
+    assert!(versions.get(symbols.len()).is_err());
 }
 
 #[test]
