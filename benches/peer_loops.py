@@ -16,7 +16,7 @@ LEVELS = {
     "high": "object, high level",
     "low": "object, low level",
     "c": "ours through C",
-    "bulk": "ours through C, names in bulk",
+    "bulk": "ours through C, in bulk or kept",
 }
 CRATE_OF_LEVEL = {"elf": "elf", "high": "object", "low": "object", "c": "nugwier", "bulk": "nugwier"}
 # The goals through C, by our word: the level of ours, and the greatest ratio to another level. All records are fetched
@@ -62,7 +62,7 @@ LOOPS = (
     Loop("SysV look-ups, there", "sysv", "elf low", "names", 0.9, "better"),
     Loop("SysV look-ups, not there", "no_sysv", "elf low", "names", 0.9, "better"),
     Loop("versions of all symbols", "versions", "elf low", "symbols", 0.5, "elf"),
-    Loop("versions of all symbols, by our index", "indexed_versions", "elf low", "symbols", 0.5, "elf", "versions"),
+    Loop("versions of all symbols, by our index", "indexed_versions", "elf low bulk", "symbols", 0.5, "elf", "versions"),
 )
 
 
