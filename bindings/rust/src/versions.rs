@@ -20,7 +20,7 @@ pub struct Version<'a> {
 }
 
 /// The versions of the symbols of a file, kept by version index: for the first symbol with an index the table is walked,
-/// and for the others it is not.
+/// and for the others it is not. There is a place for each index up to the greatest that was looked up, at most 32,768.
 ///
 /// ```no_run
 /// use nugwier::{endian::AnyEndian, versions::KeptVersions, ElfBytes};
@@ -53,7 +53,13 @@ impl<'a, 'data, E: EndianParse> KeptVersions<'a, 'data, E> {
         }
     }
 
-    /// The version that a symbol needs of another file or, if it needs none, the one with which it is defined.
+    /// The version with which a symbol is defined or, if none has its index, the one that it needs of another file, in
+    /// the order of the dynamic linker.
+    ///
+    /// # Errors
+    ///
+    /// If the version index cannot be read; else those of [`SymbolVersionTable::get_definition`], of the name of the
+    /// definition, and of [`SymbolVersionTable::get_requirement`]. What was refused is not kept.
     pub fn get(&mut self, symbol: usize) -> Result<Option<Version<'a>>, ParseError> {
         let mut index = ffi::Version::default();
         checked(ffi::version_index(self.table.raw(), symbol, &mut index))?;
@@ -70,9 +76,9 @@ impl<'a, 'data, E: EndianParse> KeptVersions<'a, 'data, E> {
     /// Looks a version index up by a symbol that has it, and keeps what is found.
     #[cold]
     fn look_up(&mut self, symbol: usize, index: u16) -> Result<Found<'a>, ParseError> {
-        let found = match self.needed(symbol)? {
+        let found = match self.defined(symbol)? {
             Some(version) => Some(version),
-            None => self.defined(symbol)?,
+            None => self.needed(symbol)?,
         };
         let place = usize::from(index);
         if self.kept.len() <= place {

@@ -160,7 +160,10 @@ fn versions_that_are_kept_are_those_of_the_table() {
         let defined = table.get_definition(symbol).unwrap();
         let found = versions.get(symbol).unwrap();
         assert_eq!(found.is_some(), needed.is_some() || defined.is_some());
-        if let (Some(found), Some(needed)) = (found, needed) {
+        if let (Some(found), Some(defined)) = (found, &defined) {
+            assert_eq!(found.file, None);
+            assert_eq!((found.hash, found.flags), (defined.hash, defined.flags));
+        } else if let (Some(found), Some(needed)) = (found, needed) {
             assert_eq!((found.file, found.name), (Some(needed.file), needed.name));
             assert_eq!((found.hash, found.flags), (needed.hash, needed.flags));
             assert_eq!(found.hidden, needed.hidden);
