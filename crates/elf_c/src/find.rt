@@ -3,15 +3,14 @@ ghost use Rattle.std.specs.Prelude.{◌≡◌, ◌↔◌, IfOk, IsTrue};
 ghost use Rattle.elf_hash_check.specs.Object.{IsSound};
 ghost use Rattle.elf_c.specs.Find.{found_shown, gnu_found, sysv_found};
 ghost use Rattle.elf_c.specs.Sound.{FindsFirst, FindsLeast, IsVerdict, gnu_object, hash_object, sysv_object};
-ghost use Rattle.elf_c.specs.Status.{status_of, written};
+ghost use Rattle.elf_c.specs.Status.{done, status_of, written};
 
-use crate::hash_tables::{look_up_in_sysv, sysv_opened};
+use crate::hash_tables::{gnu_opened, nugwier_gnu_look_up, nugwier_sysv_look_up, sysv_opened};
 use crate::records::NugwierSymbol;
 use crate::status::{NugwierStatus, done, refused};
 use crate::table::{ForC, NugwierTable, class_in, order_in, records_in};
 use elf_hash_check::hashcheck::laws::{gnu_find_on_sound, sysv_find_on_sound};
 use elf_hash_check::hashcheck::{Checked, HashKind, check_any};
-use elf_parts::hash::GnuHashTable;
 use elf_parts::parse::ParseError;
 use elf_parts::string_table::StringTable;
 use elf_parts::symbol::Symbol;
@@ -50,7 +49,23 @@ pub(crate) fn found_shown(found: &Option<(usize, Symbol)>) -> NugwierFound
     }
 }
 
-// Writes what was found, and returns the status.
+// Writes what was found. Of nothing the compiler writes zeros at once, and not each field of an answer.
+#[inline(always)]
+pub(crate) fn write_answer(
+    answer: Option<(usize, Symbol)>,
+    place: &mut NugwierFound,
+) -> NugwierStatus
+    ensures status { result ≡ done }
+    ensures place { place.new ≡ found_shown answer }
+{
+    match answer {
+        Some(found) => *place = found_shown(&Some(found)),
+        None => *place = found_shown(&None),
+    }
+    done()
+}
+
+// Writes what was found, if that is no error, and returns the status.
 #[inline(always)]
 pub(crate) fn write_found(
     answer: &Result<Option<(usize, Symbol)>, ParseError>,
@@ -68,22 +83,26 @@ pub(crate) fn write_found(
     }
 }
 
-// The symbol of a name, by a GNU hash section.
+// Opens a GNU hash section and looks a name up in it. The look-up is that of the export that takes an opened section.
 #[inline(always)]
-fn gnu_found(
+fn find_in_gnu(
     section: &[u8],
     symbols: &NugwierTable<'_>,
     strings: &[u8],
     name: &[u8],
-) -> Result<Option<(usize, Symbol)>, ParseError>
-    ensures { result ≡ gnu_found section.now symbols.now strings.now name.now }
+    found: &mut NugwierFound,
+) -> NugwierStatus
+    ensures status { result ≡ status_of (gnu_found section.now symbols.now strings.now name.now) }
+    ensures found { found.new ≡ written found_shown found.old
+        (gnu_found section.now symbols.now strings.now name.now) }
 {
-    let table = GnuHashTable::new(order_in(symbols.little), class_in(symbols.is_64), section)?;
-    table.find(name, &records_in(symbols), &StringTable::new(strings))
+    match gnu_opened(symbols.little, symbols.is_64, section) {
+        Ok(gnu) => nugwier_gnu_look_up(&gnu, symbols, strings, name, found),
+        Err(error) => refused(&error),
+    }
 }
 
-// Opens a SysV hash section and looks a name up in it. The look-up is that of the export that takes an opened section: in
-// a copy for each of the two exports the compiler inlines less.
+// The same of a SysV hash section.
 #[inline(always)]
 fn find_in_sysv(
     section: &[u8],
@@ -97,7 +116,7 @@ fn find_in_sysv(
         (sysv_found section.now symbols.now strings.now name.now) }
 {
     match sysv_opened(symbols.little, symbols.is_64, section) {
-        Ok(sysv) => look_up_in_sysv(&sysv, symbols, strings, name, found),
+        Ok(sysv) => nugwier_sysv_look_up(&sysv, symbols, strings, name, found),
         Err(error) => refused(&error),
     }
 }
@@ -121,7 +140,7 @@ pub extern "C" fn nugwier_gnu_find(
         (λ s. FindsLeast s name.now result found.new) }
 {
     gnu_find_on_sound(section);
-    write_found(&gnu_found(section, symbols, strings, name), found)
+    find_in_gnu(section, symbols, strings, name, found)
 }
 
 /// Looks a name up in a SysV hash section, for these symbols and their strings. An error leaves `found` as it is; the

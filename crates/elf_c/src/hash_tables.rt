@@ -1,5 +1,5 @@
 //! Hash sections that were opened, and look-ups in them, which do not open them anew.
-ghost use Rattle.std.specs.Prelude.{◌≡◌};
+ghost use Rattle.std.specs.Prelude.{◌≡◌, IfSome, Ok};
 ghost use Rattle.elf_parts.specs.GnuFind.{gnu_find, gnu_section, gnu_view};
 ghost use Rattle.elf_parts.specs.SysvFind.{sysv_find, sysv_section, sysv_view};
 ghost use Rattle.elf_records.specs.Number.{ok_map};
@@ -8,8 +8,7 @@ ghost use Rattle.elf_c.specs.HashTables.{gnu_of_c, sysv_of_c};
 ghost use Rattle.elf_c.specs.Status.{IsWritten, status_of, written};
 ghost use Rattle.elf_c.specs.Tables.{class_in, table_of_c};
 
-use crate::find::{NugwierFound, found_shown, write_found};
-use crate::gnu_find::find_quickly;
+use crate::find::{NugwierFound, write_answer, write_found};
 use crate::status::{NugwierStatus, done, refused};
 use crate::table::{NugwierTable, class_in, order_in, records_in};
 use elf_parts::endian::{EndianParse, LittleEndian};
@@ -17,7 +16,7 @@ use elf_parts::file::Class;
 use elf_parts::hash::{GnuHashHeader, GnuHashTable, SysVHashTable};
 use elf_parts::parse::ParseError;
 use elf_parts::string_table::StringTable;
-use elf_parts::symbol::SymbolTable;
+use elf_parts::symbol::{Symbol, SymbolTable};
 
 /// A GNU hash section that was opened: the numbers of its header, its bloom words, the words of its buckets, and its
 /// chain words. It belongs to the caller, and holds nothing that has to be freed.
@@ -164,10 +163,49 @@ fn sysv_table<'data, E: EndianParse>(
     SysVHashTable::from_parts(endian, class, sysv.buckets, sysv.chains)
 }
 
-// Looks a name up in a GNU hash section that was opened, of any byte order and class, and writes what was found. Not
-// inlined: it fills much room for errors.
+// What is found in a GNU hash section of a 64-bit little-endian file: the byte order and the class are known to the
+// compiler. `None` is for an error, for which there is no room, and for another file.
+#[inline(always)]
+fn gnu_found_quickly(
+    gnu: &NugwierGnu<'_>,
+    symbols: &NugwierTable<'_>,
+    strings: &[u8],
+    name: &[u8],
+) -> Option<Option<(usize, Symbol)>>
+    ensures { IfSome result (λ found.
+        gnu_find (gnu_of_c gnu.now) (table_of_c symbols.now) strings.now name.now ≡ Ok found) }
+{
+    if !(gnu.little && gnu.is_64 && symbols.little && symbols.is_64) {
+        return None;
+    }
+    let symtab = SymbolTable::new(LittleEndian, Class::ELF64, symbols.bytes);
+    let table = gnu_table(LittleEndian, Class::ELF64, gnu);
+    table.find_quickly(name, &symtab, &StringTable::new(strings))
+}
+
+// The same in a SysV hash section.
+#[inline(always)]
+fn sysv_found_quickly(
+    sysv: &NugwierSysv<'_>,
+    symbols: &NugwierTable<'_>,
+    strings: &[u8],
+    name: &[u8],
+) -> Option<Option<(usize, Symbol)>>
+    ensures { IfSome result (λ found.
+        sysv_find (sysv_of_c sysv.now) (table_of_c symbols.now) strings.now name.now ≡ Ok found) }
+{
+    if !(sysv.little && sysv.is_64 && symbols.little && symbols.is_64) {
+        return None;
+    }
+    let symtab = SymbolTable::new(LittleEndian, Class::ELF64, symbols.bytes);
+    let table = sysv_table(LittleEndian, Class::ELF64, sysv);
+    table.find_quickly(name, &symtab, &StringTable::new(strings))
+}
+
+// Looks a name up in a GNU hash section of any file, and writes what was found. Not inlined: it fills much room for
+// errors.
 #[inline(never)]
-fn look_up_in_gnu(
+fn write_from_gnu(
     gnu: &NugwierGnu<'_>,
     symbols: &NugwierTable<'_>,
     strings: &[u8],
@@ -179,6 +217,24 @@ fn look_up_in_gnu(
         (gnu_find (gnu_of_c gnu.now) (table_of_c symbols.now) strings.now name.now) }
 {
     let table = gnu_table(order_in(gnu.little), class_in(gnu.is_64), gnu);
+    let answer = table.find(name, &records_in(symbols), &StringTable::new(strings));
+    write_found(&answer, found)
+}
+
+// The same in a SysV hash section.
+#[inline(never)]
+fn write_from_sysv(
+    sysv: &NugwierSysv<'_>,
+    symbols: &NugwierTable<'_>,
+    strings: &[u8],
+    name: &[u8],
+    found: &mut NugwierFound,
+) -> NugwierStatus
+    ensures status { result ≡ status_of (sysv_find (sysv_of_c sysv.now) (table_of_c symbols.now) strings.now name.now) }
+    ensures found { found.new ≡ written found_shown found.old
+        (sysv_find (sysv_of_c sysv.now) (table_of_c symbols.now) strings.now name.now) }
+{
+    let table = sysv_table(order_in(sysv.little), class_in(sysv.is_64), sysv);
     let answer = table.find(name, &records_in(symbols), &StringTable::new(strings));
     write_found(&answer, found)
 }
@@ -197,44 +253,9 @@ pub extern "C" fn nugwier_gnu_look_up(
     ensures found { found.new ≡ written found_shown found.old
         (gnu_find (gnu_of_c gnu.now) (table_of_c symbols.now) strings.now name.now) }
 {
-    // Of nothing the compiler then writes zeros at once, and not each field of an answer.
-    match find_quickly(gnu, symbols, strings, name) {
-        Some(None) => {
-            *found = found_shown(&None);
-            done()
-        }
-        Some(answer) => {
-            *found = found_shown(&answer);
-            done()
-        }
-        None => look_up_in_gnu(gnu, symbols, strings, name, found),
-    }
-}
-
-// Looks a name up in a SysV hash section that was opened, and writes what was found. In the first arm the byte order and
-// the class are known to the compiler. `LittleEndian` gives it a copy of `find` of its own, since of one that several
-// places share the compiler inlines less. So both exports call this function, which is not inlined.
-#[inline(never)]
-pub(crate) fn look_up_in_sysv(
-    sysv: &NugwierSysv<'_>,
-    symbols: &NugwierTable<'_>,
-    strings: &[u8],
-    name: &[u8],
-    found: &mut NugwierFound,
-) -> NugwierStatus
-    ensures status { result ≡ status_of (sysv_find (sysv_of_c sysv.now) (table_of_c symbols.now) strings.now name.now) }
-    ensures found { found.new ≡ written found_shown found.old
-        (sysv_find (sysv_of_c sysv.now) (table_of_c symbols.now) strings.now name.now) }
-{
-    let strtab = StringTable::new(strings);
-    if sysv.little && sysv.is_64 && symbols.little && symbols.is_64 {
-        let symtab = SymbolTable::new(LittleEndian, Class::ELF64, symbols.bytes);
-        let table = sysv_table(LittleEndian, Class::ELF64, sysv);
-        write_found(&table.find(name, &symtab, &strtab), found)
-    } else {
-        let symtab = records_in(symbols);
-        let table = sysv_table(order_in(sysv.little), class_in(sysv.is_64), sysv);
-        write_found(&table.find(name, &symtab, &strtab), found)
+    match gnu_found_quickly(gnu, symbols, strings, name) {
+        Some(answer) => write_answer(answer, found),
+        None => write_from_gnu(gnu, symbols, strings, name, found),
     }
 }
 
@@ -252,5 +273,8 @@ pub extern "C" fn nugwier_sysv_look_up(
     ensures found { found.new ≡ written found_shown found.old
         (sysv_find (sysv_of_c sysv.now) (table_of_c symbols.now) strings.now name.now) }
 {
-    look_up_in_sysv(sysv, symbols, strings, name, found)
+    match sysv_found_quickly(sysv, symbols, strings, name) {
+        Some(answer) => write_answer(answer, found),
+        None => write_from_sysv(sysv, symbols, strings, name, found),
+    }
 }

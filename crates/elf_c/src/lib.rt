@@ -12,7 +12,6 @@ pub mod fault_texts;
 pub mod faults;
 pub mod file;
 pub mod find;
-mod gnu_find;
 pub mod hash_tables;
 pub mod laws;
 pub mod loaded;

@@ -1,6 +1,7 @@
 //! Hash sections, which find symbols by name: SysV (gABI, chapter "Hash Table") and GNU.
 ghost use Rattle.std.specs.Prelude.{◌≡◌, ◌<◌, ◌^◌, IfNone, IfSome, IsErr, None, Ok};
 ghost use Rattle.elf_parts.specs.Hash.{if_named, named_symbol, word_at, word_count};
+ghost use Rattle.elf_parts.specs.inner.Answers.{read_again};
 ghost use Rattle.elf_records.specs.Number.{ok_map};
 ghost use Rattle.elf_records.specs.Table.{table_view};
 
@@ -21,8 +22,22 @@ type U32Table<'data, E> = ParsingTable<'data, E, u32>;
 /// What a look-up returns: the index and the symbol, if there is one.
 type Found = Result<Option<(usize, Symbol)>, ParseError>;
 
-// The reads of a look-up are inlined, and return `None` for an error. `refused_word` and `refused_symbol` read again
-// and return it: a `ParseError` is large, and to carry one that is not there costs more than the look-up.
+// The reads of a look-up are inlined, and return `None` for an error. `refused` reads again and returns it: a
+// `ParseError` is large, and to carry one that is not there costs more than the look-up.
+
+// A read of a look-up that failed.
+#[derive(Drop)]
+enum Refusal {
+    // The word of a bucket.
+    BucketAt(usize),
+    // A chain word.
+    ChainAt(usize),
+    // A symbol or its name.
+    SymbolAt(usize),
+}
+
+// What a look-up finds, or the read that failed.
+type Answer = Result<Option<(usize, Symbol)>, Refusal>;
 
 // A word of a table, or `None` if it cannot be read.
 #[tactic(auto, unfolding(crate::specs::Hash::word_at))]
@@ -82,7 +97,6 @@ fn if_named<'data, E: EndianParse>(
 
 // The error of a word that cannot be read.
 #[tactic(auto, unfolding(crate::specs::Hash::word_at))]
-#[inline(never)]
 fn refused_word<E: EndianParse>(words: &U32Table<'_, E>, index: usize) -> Found
     ensures { result ≡ ok_map (λ _. None) (word_at (table_view words.now) index) }
 {
@@ -91,7 +105,6 @@ fn refused_word<E: EndianParse>(words: &U32Table<'_, E>, index: usize) -> Found
 }
 
 // The error of a symbol or a name that cannot be read.
-#[inline(never)]
 fn refused_symbol<E: EndianParse>(
     symtab: &SymbolTable<'_, E>,
     strings: &TerminatedStrings<'_>,
@@ -101,4 +114,23 @@ fn refused_symbol<E: EndianParse>(
 {
     named_symbol(symtab, strings, index)?;
     Ok(None)
+}
+
+// The error of a read that failed.
+#[inline(never)]
+fn refused<E: EndianParse>(
+    buckets: &U32Table<'_, E>,
+    chains: &U32Table<'_, E>,
+    symtab: &SymbolTable<'_, E>,
+    strings: &TerminatedStrings<'_>,
+    refusal: Refusal,
+) -> Found
+    ensures { result ≡ read_again (table_view buckets.now) (table_view chains.now) (table_view symtab.now) strings.now
+        refusal }
+{
+    match refusal {
+        Refusal::BucketAt(bucket) => refused_word(buckets, bucket),
+        Refusal::ChainAt(place) => refused_word(chains, place),
+        Refusal::SymbolAt(index) => refused_symbol(symtab, strings, index),
+    }
 }

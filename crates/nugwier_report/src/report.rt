@@ -239,7 +239,7 @@ fn write_text<W: Write>(
     ensures { OnOk result (Appends (W.contents out.old) (W.contents out.new)
         (text_of style class kind (members_said members.now))) }
 {
-    let (_, columns, end) = kind.layout();
+    let (_, columns, end) = *kind.layout();
     write_row(style, class, kind.is_heading(), columns, end, members, out)
 }
 

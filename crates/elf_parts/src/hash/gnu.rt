@@ -3,16 +3,18 @@ ghost use Rattle.std.specs.Prelude.{◌≡◌, ◌-◌, ◌%◌, ◌<◌, ◌≤
 ghost use Rattle.elf_records.specs.Class.{address_bits};
 ghost use Rattle.elf_parts.specs.GnuFind.{bloom_word, find_by_hash, find_in_run, gnu_find, gnu_of_parts, gnu_section};
 ghost use Rattle.elf_parts.specs.GnuFind.{excludes, gnu_view, passes, word_decides};
+ghost use Rattle.elf_parts.specs.inner.Answers.{IsAnswered};
 ghost use Rattle.elf_parts.specs.Hash.{gnu_hash_of, word_count};
 ghost use Rattle.elf_records.specs.Number.{ok_map};
-ghost use Rattle.elf_records.specs.StringTable.{strings_view};
+ghost use Rattle.std.specs.Str.{bytes_eq};
+ghost use Rattle.elf_records.specs.StringTable.{string_at, strings_view};
 ghost use Rattle.elf_records.specs.Table.{Table, table_in, table_view};
 
 mod eight;
 
 use crate::endian::{BigEndian, EndianParse, LittleEndian};
 use crate::file::Class;
-use crate::hash::{Found, U32Table, if_named, refused_symbol, refused_word, word, word_count};
+use crate::hash::{Answer, Found, Refusal, U32Table, refused, word, word_count};
 use crate::parse::{ParseAt, ParseError, ParsingTable, get_bytes};
 use crate::string_table::{StringTable, TerminatedStrings};
 use crate::symbol::{Symbol, SymbolTable};
@@ -120,6 +122,38 @@ fn bloom_word<E: EndianParse>(
     }
 }
 
+// The same, or `None` if it cannot be read.
+#[tactic(auto, unfolding(crate::specs::GnuFind::bloom_word, crate::specs::Hash::word_at, crate::specs::Hash::long_word_at))]
+#[inline(always)]
+fn bloom_word_quickly<E: EndianParse>(
+    endian: E,
+    class: Class,
+    bloom: &[u8],
+    index: usize,
+) -> Option<u64>
+    ensures value { IfSome result (λ word. bloom_word (table_in (E.little endian) class bloom.now) index ≡ Ok word) }
+    ensures refused { IfNone result (IsErr (bloom_word (table_in (E.little endian) class bloom.now) index)) }
+{
+    match class {
+        Class::ELF32 => {
+            let word = U32Table::new(endian, class, bloom).get_quickly(index)?;
+            Some(word as u64)
+        }
+        Class::ELF64 => U64Table::new(endian, class, bloom).get_quickly(index),
+    }
+}
+
+// Whether the string at an offset is this name, or `None` if it cannot be read. Not inlined: the walk along a run is
+// then small enough to be.
+#[inline(never)]
+fn is_named(strings: &TerminatedStrings<'_>, offset: usize, name: &[u8]) -> Option<bool>
+    ensures value { IfSome result (λ same.
+        ok_map (λ bytes. bytes_eq bytes name.now) (string_at strings.now offset) ≡ Ok same) }
+    ensures refused { IfNone result (IsErr (string_at strings.now offset)) }
+{
+    strings.is_quickly(offset, name)
+}
+
 impl<'data, E: EndianParse> GnuHashTable<'data, E> {
     /// Reads the header at the front of the section, and finds the bloom words and the buckets after it. The rest of
     /// the data are the chain words.
@@ -213,20 +247,42 @@ impl<'data, E: EndianParse> GnuHashTable<'data, E> {
 
     // Whether both bloom bits of a hash are set.
     #[tactic(auto, using(std::proofs::lemmas::Nat::Bits::shr_and_one), unfolding(crate::specs::GnuFind::passes))]
-    #[inline(always)]
     fn passes(&self, hash: u32) -> Result<bool, ParseError>
         requires { 0 < self.now.hdr.nbloom }
         ensures { result ≡ passes (gnu_view self.now) hash }
     {
         let bits = bloom_bits(self.class);
-        let word = self.bloom_word(remainder(hash / bits, self.hdr.nbloom) as usize)?;
-        if (word >> (hash % bits)) & 1 == 0 {
+        let word = self.bloom_word((hash / bits % self.hdr.nbloom) as usize)?;
+        let first = (word >> (hash % bits)) & 1;
+        if first == 0 {
             return Ok(false);
         }
         let second = hash
             .checked_shr(self.hdr.nshift)
             .ok_or(ParseError::IntegerOverflow)?;
         Ok((word >> (second % bits)) & 1 == 1)
+    }
+
+    // The same, or `None` if that is an error.
+    #[tactic(auto, using(std::proofs::lemmas::Nat::Bits::shr_and_one), unfolding(crate::specs::GnuFind::passes))]
+    #[inline(always)]
+    fn passes_quickly(&self, hash: u32) -> Option<bool>
+        requires { 0 < self.now.hdr.nbloom }
+        ensures value { IfSome result (λ passed. passes (gnu_view self.now) hash ≡ Ok passed) }
+        ensures refused { IfNone result (IsErr (passes (gnu_view self.now) hash)) }
+    {
+        let bits = bloom_bits(self.class);
+        let index = remainder(hash / bits, self.hdr.nbloom) as usize;
+        let word = if self.little {
+            bloom_word_quickly(LittleEndian, self.class, self.bloom, index)?
+        } else {
+            bloom_word_quickly(BigEndian, self.class, self.bloom, index)?
+        };
+        if (word >> (hash % bits)) & 1 == 0 {
+            return Some(false);
+        }
+        let second = hash.checked_shr(self.hdr.nshift)?;
+        Some((word >> (second % bits)) & 1 == 1)
     }
 
     /// Returns whether the bloom words tell that the section has no name with this hash (`gnu_hash`): `find` of such a
@@ -251,24 +307,15 @@ impl<'data, E: EndianParse> GnuHashTable<'data, E> {
         if self.hdr.nbloom == 0 {
             return true;
         }
-        match self.passes(hash) {
-            Ok(passes) => !passes,
-            Err(_) => false,
+        match self.passes_quickly(hash) {
+            Some(passes) => !passes,
+            None => false,
         }
-    }
-
-    // The error of bloom bits that cannot be read.
-    #[inline(never)]
-    fn refused_by_bloom(&self, hash: u32) -> Found
-        requires { 0 < self.now.hdr.nbloom }
-        ensures { result ≡ ok_map (λ _. None) (passes (gnu_view self.now) hash) }
-    {
-        self.passes(hash)?;
-        Ok(None)
     }
 
     // What a chain word decides for a name with this hash, or `None` if its symbol cannot be read. `index` is that of
     // the symbol.
+    #[tactic(auto, unfolding(crate::specs::Hash::named_symbol))]
     #[inline(always)]
     fn decide(
         &self,
@@ -285,8 +332,12 @@ impl<'data, E: EndianParse> GnuHashTable<'data, E> {
         ensures refused { IfNone result
             (IsErr (word_decides (gnu_view self.now) (table_view symtab.now) strings.now name.now index word)) }
     {
-        if word / 2 == hash / 2 {
-            if_named(symtab, strings, name, index)
+        if word / 2 != hash / 2 {
+            return Some(None);
+        }
+        let symbol = symtab.get_quickly(index)?;
+        if is_named(strings, symbol.st_name as usize, name)? {
+            Some(Some((index, symbol)))
         } else {
             Some(None)
         }
@@ -301,20 +352,21 @@ impl<'data, E: EndianParse> GnuHashTable<'data, E> {
         start: usize,
         symtab: &SymbolTable<'data, E>,
         strings: &TerminatedStrings<'data>,
-    ) -> Found
+    ) -> Answer
         requires { hash ≡ gnu_hash_of name.now }
         ensures { let t = gnu_view self.now in let limit = word_count t.chains - start in
-            result ≡ find_in_run t (table_view symtab.now) strings.now name.now limit start }
+            IsAnswered t.buckets t.chains (table_view symtab.now) strings.now result
+            (find_in_run t (table_view symtab.now) strings.now name.now limit start) }
     {
         let first = self.hdr.table_start_idx as usize;
         for place in start..word_count(&self.chains) {
             let Some(word) = word(&self.chains, place) else {
-                return refused_word(&self.chains, place);
+                return Err(Refusal::ChainAt(place));
             };
             match self.decide(hash, name, first + place, word, symtab, strings) {
                 Some(Some(found)) => return Ok(Some(found)),
                 Some(None) => {}
-                None => return refused_symbol(symtab, strings, first + place),
+                None => return Err(Refusal::SymbolAt(first + place)),
             }
             if word % 2 == 1 {
                 return Ok(None);
@@ -330,22 +382,32 @@ impl<'data, E: EndianParse> GnuHashTable<'data, E> {
         hash: usize,
         name: &[u8],
         symtab: &SymbolTable<'data, E>,
-        strtab: &StringTable<'data>,
-    ) -> Found
+        strings: &TerminatedStrings<'data>,
+    ) -> Answer
         requires hash { hash ≡ gnu_hash_of name.now }
         requires some { 0 < word_count (gnu_view self.now).buckets }
-        ensures { result ≡ find_by_hash (gnu_view self.now) (table_view symtab.now) (strings_view strtab.now) name.now }
+        ensures { let t = gnu_view self.now in IsAnswered t.buckets t.chains (table_view symtab.now) strings.now result
+            (find_by_hash t (table_view symtab.now) strings.now name.now) }
     {
         let first = self.hdr.table_start_idx as usize;
         let bucket = hash % word_count(&self.buckets);
         let Some(start) = word(&self.buckets, bucket) else {
-            return refused_word(&self.buckets, bucket);
+            return Err(Refusal::BucketAt(bucket));
         };
         if start < first {
             return Ok(None);
         }
-        let strings = TerminatedStrings::new(strtab);
-        self.find_in_run(hash, name, start - first, symtab, &strings)
+        self.find_in_run(hash, name, start - first, symtab, strings)
+    }
+
+    // The error of bloom bits that cannot be read.
+    #[inline(never)]
+    fn refused_by_bloom(&self, hash: u32) -> Found
+        requires { 0 < self.now.hdr.nbloom }
+        ensures { result ≡ ok_map (λ _. None) (passes (gnu_view self.now) hash) }
+    {
+        self.passes(hash)?;
+        Ok(None)
     }
 
     /// Returns the index and the symbol of a name, the first in the run of its bucket. Returns `None` if there are no
@@ -382,10 +444,45 @@ impl<'data, E: EndianParse> GnuHashTable<'data, E> {
             return Ok(None);
         }
         let hash = gnu_hash(name);
-        match self.passes(hash) {
-            Ok(true) => self.find_in_bucket(hash as usize, name, symtab, strtab),
-            Ok(false) => Ok(None),
-            Err(_) => self.refused_by_bloom(hash),
+        match self.passes_quickly(hash) {
+            Some(true) => {
+                let strings = TerminatedStrings::new(strtab);
+                match self.find_in_bucket(hash as usize, name, symtab, &strings) {
+                    Ok(found) => Ok(found),
+                    Err(refusal) => refused(&self.buckets, &self.chains, symtab, &strings, refusal),
+                }
+            }
+            Some(false) => Ok(None),
+            None => self.refused_by_bloom(hash),
+        }
+    }
+
+    /// Returns what `find` does, or `None` where that is an error, without room for one. A caller that looks up many
+    /// names can ask `find` for the error of those that are refused.
+    #[tactic(auto, unfolding(crate::specs::GnuFind::gnu_find))]
+    #[inline(always)]
+    pub fn find_quickly(
+        &self,
+        name: &[u8],
+        symtab: &SymbolTable<'data, E>,
+        strtab: &StringTable<'data>,
+    ) -> Option<Option<(usize, Symbol)>>
+        ensures value { IfSome result (λ found.
+            gnu_find (gnu_view self.now) (table_view symtab.now) (strings_view strtab.now) name.now ≡ Ok found) }
+        ensures refused { IfNone result
+            (IsErr (gnu_find (gnu_view self.now) (table_view symtab.now) (strings_view strtab.now) name.now)) }
+    {
+        if self.buckets.is_empty() || self.hdr.nbloom == 0 {
+            return Some(None);
+        }
+        let hash = gnu_hash(name);
+        if !self.passes_quickly(hash)? {
+            return Some(None);
+        }
+        let strings = TerminatedStrings::new(strtab);
+        match self.find_in_bucket(hash as usize, name, symtab, &strings) {
+            Ok(found) => Some(found),
+            Err(_) => None,
         }
     }
 }

@@ -1,14 +1,15 @@
 //! SysV hash sections (gABI, chapter "Hash Table").
-ghost use Rattle.std.specs.Prelude.{◌≡◌, ◌%◌, ◌^◌};
+ghost use Rattle.std.specs.Prelude.{◌≡◌, ◌%◌, ◌^◌, IfNone, IfSome, IsErr, Ok};
 ghost use Rattle.elf_parts.specs.Hash.{hash_fold, sysv_hash_of, word_count};
 ghost use Rattle.elf_records.specs.Number.{ok_map};
 ghost use Rattle.elf_records.specs.StringTable.{strings_view};
 ghost use Rattle.elf_parts.specs.SysvFind.{find_along, sysv_find, sysv_of_parts, sysv_section, sysv_view};
 ghost use Rattle.elf_records.specs.Table.{table_view};
+ghost use Rattle.elf_parts.specs.inner.Answers.{IsAnswered};
 
 use crate::endian::EndianParse;
 use crate::file::Class;
-use crate::hash::{Found, U32Table, if_named, refused_symbol, refused_word, word, word_count};
+use crate::hash::{Answer, Refusal, U32Table, if_named, refused, word, word_count};
 use crate::parse::{ParseAt, ParseError, ParsingTable, get_bytes};
 use crate::string_table::{StringTable, TerminatedStrings};
 use crate::symbol::{Symbol, SymbolTable};
@@ -132,9 +133,10 @@ impl<'data, E: EndianParse> SysVHashTable<'data, E> {
         name: &[u8],
         symtab: &SymbolTable<'data, E>,
         strings: &TerminatedStrings<'data>,
-    ) -> Found
+    ) -> Answer
         ensures { let t = sysv_view self.now in let limit = word_count t.chains in
-            result ≡ find_along t (table_view symtab.now) strings.now name.now limit start }
+            IsAnswered t.buckets t.chains (table_view symtab.now) strings.now result
+            (find_along t (table_view symtab.now) strings.now name.now limit start) }
     {
         let mut index = start;
         for _ in 0..word_count(&self.chains) {
@@ -144,14 +146,38 @@ impl<'data, E: EndianParse> SysVHashTable<'data, E> {
             match if_named(symtab, strings, name, index) {
                 Some(Some(found)) => return Ok(Some(found)),
                 Some(None) => {}
-                None => return refused_symbol(symtab, strings, index),
+                None => return Err(Refusal::SymbolAt(index)),
             }
             let Some(next) = word(&self.chains, index) else {
-                return refused_word(&self.chains, index);
+                return Err(Refusal::ChainAt(index));
             };
             index = next;
         }
         Ok(None)
+    }
+
+    // The index and the symbol of a name, along the chain of its bucket.
+    #[tactic(auto, using(crate::proofs::Walks::along_ended), unfolding(crate::specs::SysvFind::sysv_find))]
+    #[inline(always)]
+    fn find_in_bucket(
+        &self,
+        name: &[u8],
+        symtab: &SymbolTable<'data, E>,
+        strings: &TerminatedStrings<'data>,
+    ) -> Answer
+        ensures { let t = sysv_view self.now in IsAnswered t.buckets t.chains (table_view symtab.now) strings.now result
+            (sysv_find t (table_view symtab.now) strings.now name.now) }
+    {
+        let nbucket = word_count(&self.buckets);
+        if nbucket == 0 {
+            return Ok(None);
+        }
+        let bucket = sysv_hash(name) as usize % nbucket;
+        match word(&self.buckets, bucket) {
+            Some(0) => Ok(None),
+            Some(index) => self.find_along(index, name, symtab, strings),
+            None => Err(Refusal::BucketAt(bucket)),
+        }
     }
 
     /// Returns the index and the symbol of a name: the first one along the chain of its bucket. Returns `None` if
@@ -172,7 +198,6 @@ impl<'data, E: EndianParse> SysVHashTable<'data, E> {
     /// ```
     // Inlined with its parts. A result has some hundred bytes, since `ParseError` can hold an `io::Error`: a call would
     // fill and copy that room for each look-up.
-    #[tactic(auto, using(crate::proofs::Walks::along_ended), unfolding(crate::specs::SysvFind::sysv_find))]
     #[inline(always)]
     pub fn find(
         &self,
@@ -182,15 +207,30 @@ impl<'data, E: EndianParse> SysVHashTable<'data, E> {
     ) -> Result<Option<(usize, Symbol)>, ParseError>
         ensures { result ≡ sysv_find (sysv_view self.now) (table_view symtab.now) (strings_view strtab.now) name.now }
     {
-        let nbucket = word_count(&self.buckets);
-        if nbucket == 0 {
-            return Ok(None);
+        let strings = TerminatedStrings::new(strtab);
+        match self.find_in_bucket(name, symtab, &strings) {
+            Ok(found) => Ok(found),
+            Err(refusal) => refused(&self.buckets, &self.chains, symtab, &strings, refusal),
         }
-        let bucket = sysv_hash(name) as usize % nbucket;
-        match word(&self.buckets, bucket) {
-            Some(0) => Ok(None),
-            Some(index) => self.find_along(index, name, symtab, &TerminatedStrings::new(strtab)),
-            None => refused_word(&self.buckets, bucket),
+    }
+
+    /// Returns what `find` does, or `None` where that is an error, without room for one. A caller that looks up many
+    /// names can ask `find` for the error of those that are refused.
+    #[inline(always)]
+    pub fn find_quickly(
+        &self,
+        name: &[u8],
+        symtab: &SymbolTable<'data, E>,
+        strtab: &StringTable<'data>,
+    ) -> Option<Option<(usize, Symbol)>>
+        ensures value { IfSome result (λ found.
+            sysv_find (sysv_view self.now) (table_view symtab.now) (strings_view strtab.now) name.now ≡ Ok found) }
+        ensures refused { IfNone result
+            (IsErr (sysv_find (sysv_view self.now) (table_view symtab.now) (strings_view strtab.now) name.now)) }
+    {
+        match self.find_in_bucket(name, symtab, &TerminatedStrings::new(strtab)) {
+            Ok(found) => Some(found),
+            Err(_) => None,
         }
     }
 }

@@ -10,26 +10,26 @@ pub returns-in_default : goal.returns-in_default
 returns-in_default g c =
     let error = refusal _ c.in_default.ensures.refused in
     let step = run_cut (gnu_view c.args.self.now) (table_view c.args.symtab.now) c.args.strings.now c.args.name.now (word_count (gnu_view c.args.self.now).chains - c.loop-place.place) c.loop-place.place _ (omega arith) error.1 in
-    let all = sym step ∙ c.loop-place.invariant in
-    search (rules, all)
+    let all = sym c.loop-place.invariant ∙ step in
+    (search (rules, all), search (rules, all))
 
 pub returns-in-None : goal.returns-in-None
 returns-in-None g c =
     let error = refusal _ c.in-None.ensures.refused in
     let step = run_refused (gnu_view c.args.self.now) (table_view c.args.symtab.now) c.args.strings.now c.args.name.now (word_count (gnu_view c.args.self.now).chains - c.loop-place.place) c.loop-place.place c.in-Some.word _ (omega arith) c.in-Some.ensures.value error.1 in
-    let all = sym step ∙ c.loop-place.invariant in
+    let all = sym c.loop-place.invariant ∙ step in
     let refused = decides_refused (gnu_view c.args.self.now) (table_view c.args.symtab.now) c.args.strings.now c.args.name.now _ c.in-Some.word _ error.1 in
-    search (rules, all, refused)
+    (search (rules, all), search (rules, all, refused))
 
 pub returns-in-Some-Some : goal.returns-in-Some-Some
 returns-in-Some-Some g c =
     let step = run_found (gnu_view c.args.self.now) (table_view c.args.symtab.now) c.args.strings.now c.args.name.now (word_count (gnu_view c.args.self.now).chains - c.loop-place.place) c.loop-place.place c.in-Some.word c.in-Some-Some.found (omega arith) c.in-Some.ensures.value (cc (c.in-Some-Some.ensures.value, c.in-Some-Some.field-0-is)) in
-    sym step ∙ c.loop-place.invariant
+    sym c.loop-place.invariant ∙ step
 
 pub returns-then-word-eq1 : goal.returns-then-word-eq1
 returns-then-word-eq1 g c =
     let step = run_ended (gnu_view c.args.self.now) (table_view c.args.symtab.now) c.args.strings.now c.args.name.now (word_count (gnu_view c.args.self.now).chains - c.loop-place.place) c.loop-place.place c.in-Some.word c.in-Some.ensures.value (cc (c.in-Some-None.ensures.value, c.in-Some-None.field-0-is)) (omega arith) in
-    sym step ∙ c.loop-place.invariant
+    sym c.loop-place.invariant ∙ step
 
 pub loop-place-preserved : goal.loop-place-preserved
 loop-place-preserved g c =
@@ -40,4 +40,4 @@ loop-place-preserved g c =
 pub returns : goal.returns
 returns g c =
     let step = run_limit (gnu_view c.args.self.now) (table_view c.args.symtab.now) c.args.strings.now c.args.name.now (word_count (gnu_view c.args.self.now).chains - c.loop-place.place) c.loop-place.place (omega arith) in
-    sym step ∙ c.loop-place.invariant
+    sym c.loop-place.invariant ∙ step
