@@ -1,6 +1,7 @@
 """Running programs, and telling what a run costs."""
 import glob
 import hashlib
+import json
 import os
 import re
 import shutil
@@ -77,6 +78,21 @@ def build_program(name, folder):
     if not os.path.exists(built):
         raise SystemExit(f"{name} was not built: {(run.stdout + run.stderr)[-2000:]}")
     return built
+
+
+def build_with_elf(folder, elf):
+    """The folder of the programs of with_elf, which are built with the sources of the crate in the folder `elf`."""
+    shutil.copytree(os.path.join(HERE, "with_elf"), folder)
+    path = os.path.join(folder, "Cargo.toml")
+    with open(path) as file:
+        text = file.read()
+    with open(path, "w") as file:
+        file.write(text.replace('elf = "0.8.0"', f"elf = {{ path = {json.dumps(os.path.abspath(elf))} }}"))
+    command = ["cargo", "build", "--release", "--offline"]
+    run = subprocess.run(command, cwd=folder, capture_output=True, text=True, env={**os.environ, "CARGO_TARGET_DIR": "target"})
+    if run.returncode != 0:
+        raise SystemExit(f"with_elf was not built: {run.stderr[-2000:]}")
+    return os.path.join(folder, "target", "release")
 
 
 def processor_seconds(command, statuses):
