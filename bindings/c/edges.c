@@ -11,6 +11,9 @@
 
 static unsigned long seen;
 
+/* How many symbols are compared with what places find of them: all of the file as it is, few of damaged ones. */
+static size_t most_placed = SIZE_MAX;
+
 /* Reads each byte, so that the sanitizer sees a range that is not there. */
 static void touch(const uint8_t *bytes, size_t length)
 {
@@ -23,6 +26,22 @@ static void expect(int holds, const char *what)
         fprintf(stderr, "edges: %s\n", what);
         exit(1);
     }
+}
+
+static bool same_status(struct nugwier_status one, struct nugwier_status other)
+{
+    return one.code == other.code && one.first == other.first && one.second == other.second;
+}
+
+static bool same_bytes(const uint8_t *one, size_t length, const uint8_t *other, size_t other_length)
+{
+    return length == other_length && (!length || !memcmp(one, other, length));
+}
+
+static bool same_table(const struct nugwier_table *one, const struct nugwier_table *other)
+{
+    return one->little == other->little && one->is_64 == other->is_64 &&
+           same_bytes(one->bytes, one->bytes_len, other->bytes, other->bytes_len);
 }
 
 static void read_notes(const struct nugwier_notes *notes)
@@ -121,6 +140,75 @@ static void read_versions(const struct nugwier_file *file)
             touch(name.bytes, name.bytes_len);
         }
     }
+}
+
+static bool same_requirement(const struct nugwier_requirement *one, const struct nugwier_requirement *other)
+{
+    return one->found == other->found && one->hidden == other->hidden && one->flags == other->flags &&
+           one->hash == other->hash && same_bytes(one->file, one->file_len, other->file, other->file_len) &&
+           same_bytes(one->name, one->name_len, other->name, other->name_len);
+}
+
+static bool same_definition(const struct nugwier_definition *one, const struct nugwier_definition *other)
+{
+    return one->found == other->found && one->hidden == other->hidden && one->flags == other->flags &&
+           one->hash == other->hash && one->names.count == other->names.count &&
+           one->names.offset == other->names.offset && same_table(&one->names.entries, &other->names.entries) &&
+           same_bytes(one->names.strings, one->names.strings_len, other->names.strings, other->names.strings_len);
+}
+
+/* What a symbol has is the same with any number of places. */
+static void read_placed(const struct nugwier_versions *versions, const struct nugwier_version_place *places,
+                        size_t count, size_t symbol)
+{
+    struct nugwier_requirement needed = {.hash = 1}, needed_by_place = {.hash = 1};
+    struct nugwier_definition defined = {.hash = 1}, defined_by_place = {.hash = 1};
+    struct nugwier_status status = nugwier_requirement(versions, symbol, &needed);
+    expect(same_status(status, nugwier_placed_requirement(versions, places, count, symbol, &needed_by_place)) &&
+               same_requirement(&needed, &needed_by_place),
+           "another requirement by places");
+    status = nugwier_definition(versions, symbol, &defined);
+    expect(same_status(status, nugwier_placed_definition(versions, places, count, symbol, &defined_by_place)) &&
+               same_definition(&defined, &defined_by_place),
+           "another definition by places");
+}
+
+/* Places that no call filled: each look-up ends, and reads only what lies in the bytes. */
+static void read_forged(const struct nugwier_versions *versions, size_t symbol)
+{
+    struct nugwier_version_place forged[64];
+    struct nugwier_requirement needed = {0};
+    struct nugwier_definition defined = {0};
+    struct nugwier_bytes name = {0};
+    bool found = false;
+    for (size_t i = 0; i < 64; i++) {
+        uint32_t offset = i % 2 ? (uint32_t)i : UINT32_MAX;
+        forged[i].need = (struct nugwier_placed_need){UINT16_MAX, 0, 0, offset, offset};
+        forged[i].definition = (struct nugwier_placed_definition){1, 0, 0, UINT64_MAX, i % 2 ? i : SIZE_MAX};
+    }
+    if (!nugwier_placed_requirement(versions, forged, 64, symbol, &needed).code && needed.found)
+        touch(needed.name, needed.name_len);
+    if (nugwier_placed_definition(versions, forged, 64, symbol, &defined).code || !defined.found) return;
+    if (!nugwier_version_name(&defined.names, &found, &name).code && found) touch(name.bytes, name.bytes_len);
+}
+
+static void read_by_places(const struct nugwier_file *file)
+{
+    struct nugwier_versions versions = {0};
+    struct nugwier_version version = {0};
+    struct nugwier_version_place places[200], few[2];
+    if (nugwier_version_table(file, &versions).code || !versions.found) return;
+    memset(places, 0xff, sizeof places);
+    memset(few, 0xff, sizeof few);
+    nugwier_place_versions(&versions, places, 200);
+    nugwier_place_versions(&versions, few, 2);
+    for (size_t i = 0; i < most_placed && !nugwier_version_index(&versions, i, &version).code; i++) {
+        read_placed(&versions, places, 200, i);
+        read_placed(&versions, few, 2, i);
+        read_placed(&versions, NULL, 0, i);
+        read_forged(&versions, i);
+    }
+    read_placed(&versions, places, 200, SIZE_MAX);
 }
 
 static void read_common(const struct nugwier_file *file)
@@ -303,6 +391,7 @@ static void read_all(const uint8_t *bytes, size_t length)
     find_at(&table.symbols, UINT64_MAX);
     find_at(&table.symbols, file.header.entry);
     read_versions(&file);
+    read_by_places(&file);
     read_common(&file);
     read_names(&file);
     read_checked(&file);
@@ -360,22 +449,6 @@ static bool load(struct parts *parts, struct nugwier_status status, struct nugwi
         struct nugwier_status before = {0, 0, 0};           \
         while (load(&parts, status = (call), &before)) {}   \
     } while (0)
-
-static bool same_status(struct nugwier_status one, struct nugwier_status other)
-{
-    return one.code == other.code && one.first == other.first && one.second == other.second;
-}
-
-static bool same_bytes(const uint8_t *one, size_t length, const uint8_t *other, size_t other_length)
-{
-    return length == other_length && (!length || !memcmp(one, other, length));
-}
-
-static bool same_table(const struct nugwier_table *one, const struct nugwier_table *other)
-{
-    return one->little == other->little && one->is_64 == other->is_64 &&
-           same_bytes(one->bytes, one->bytes_len, other->bytes, other->bytes_len);
-}
 
 static bool same_symbols(const struct nugwier_symbol_table *one, const struct nugwier_symbol_table *other)
 {
@@ -806,6 +879,17 @@ static void nothing(void)
     expect(nugwier_dynamic_table(&file, &dynamics).code == 0 && !dynamics.found, "entries of a file without any");
     expect(nugwier_section_names(&file, &names).code == 0 && !names.found, "names of a file without any");
     expect(nugwier_version_table(&file, &versions).code == 0 && !versions.found, "versions of a file without any");
+    struct nugwier_version_place place;
+    struct nugwier_requirement needed_version = {.found = true};
+    struct nugwier_definition defined_version = {.found = true};
+    memset(&place, 0xff, sizeof place);
+    nugwier_place_versions(&versions, &place, 1);
+    nugwier_place_versions(&versions, NULL, 0);
+    expect(!place.need.found && !place.definition.found, "a place of no versions");
+    expect(!nugwier_placed_requirement(&versions, &place, 1, SIZE_MAX, &needed_version).code && !needed_version.found,
+           "a requirement without needs");
+    expect(!nugwier_placed_definition(&versions, &place, 1, SIZE_MAX, &defined_version).code && !defined_version.found,
+           "a definition without definitions");
     expect(nugwier_section_by_name(&file, NULL, 0, &found, &section).code == 0 && !found, "a section of no name");
     expect(!nugwier_check(&file, &found, &fault).code && found && fault.kind == NUGWIER_NO_FAULT && fault.part == 0 &&
                fault.index == 0 && fault.first == 0 && fault.second == 0,
@@ -871,6 +955,7 @@ int main(int argc, char **argv)
     if (!bytes || fread(bytes, 1, length, file) != length) return perror(argv[1]), 1;
     fclose(file);
     read_all(bytes, length);
+    most_placed = 20;
     if (length >= 100) no_file(bytes, length);
     if (length >= 100 && bytes[4] == 2) cut_first_section(bytes, length);
     /* the file cut off */

@@ -154,6 +154,8 @@ static int list_versions(const struct nugwier_file *file, const struct nugwier_s
     struct nugwier_status status = nugwier_version_table(file, &versions);
     if (status.code) return fail("versions", status);
     if (!versions.found) return 0;
+    struct nugwier_version_place places[256];
+    nugwier_place_versions(&versions, places, 256);
     for (size_t i = 0; i < nugwier_symbol_count(&table->symbols); i++) {
         struct nugwier_version version = {0};
         struct nugwier_requirement requirement = {0};
@@ -163,14 +165,14 @@ static int list_versions(const struct nugwier_file *file, const struct nugwier_s
         if (status.code) return fail("symbol", status);
         status = nugwier_version_index(&versions, i, &version);
         if (status.code) return fail("version index", status);
-        status = nugwier_requirement(&versions, i, &requirement);
+        status = nugwier_placed_requirement(&versions, places, 256, i, &requirement);
         if (status.code) return fail("requirement", status);
         if (requirement.found) {
             printf("%zu @%.*s %.*s\n", i, (int)requirement.name_len, (const char *)requirement.name,
                    (int)requirement.file_len, (const char *)requirement.file);
             continue;
         }
-        status = nugwier_definition(&versions, i, &defined);
+        status = nugwier_placed_definition(&versions, places, 256, i, &defined);
         if (status.code) return fail("definition", status);
         if (defined.found) {
             bool found = false;

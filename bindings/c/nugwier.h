@@ -538,6 +538,46 @@ struct nugwier_status nugwier_requirement(const struct nugwier_versions *version
 struct nugwier_status nugwier_definition(const struct nugwier_versions *versions, size_t symbol,
                                          struct nugwier_definition *defined);
 
+/* The same without a walk over the needs or the definitions, which the two calls above take for each symbol.
+ *
+ * `nugwier_place_versions` fills places of the caller in one walk, whatever they hold. Number k then holds the first
+ * need and the first definition with the version index k. With these places the two calls below return and write what
+ * the two above do. A symbol whose index is below `places_len` takes no walk, any other one that of the calls above.
+ * Version indexes have 15 bits, so 32,768 places suffice; those of most files are below 100. Of places that were not
+ * filled for these versions it is not said what they find.
+ *
+ * The names of a need begin at `file` and `name` of the strings of the needs, in bytes. Those of a definition are at
+ * most `count`, the first at `offset` of the entries of the definitions. */
+struct nugwier_placed_need {
+    uint16_t found;  /* 0 if there is none */
+    uint16_t flags;
+    uint32_t hash;
+    uint32_t file;
+    uint32_t name;
+};
+
+struct nugwier_placed_definition {
+    uint16_t found;  /* 0 if there is none */
+    uint16_t flags;
+    uint32_t hash;
+    uint64_t count;
+    size_t offset;
+};
+
+struct nugwier_version_place {
+    struct nugwier_placed_need need;
+    struct nugwier_placed_definition definition;
+};
+
+void nugwier_place_versions(const struct nugwier_versions *versions, struct nugwier_version_place *places,
+                            size_t places_len);
+struct nugwier_status nugwier_placed_requirement(const struct nugwier_versions *versions,
+                                                 const struct nugwier_version_place *places, size_t places_len,
+                                                 size_t symbol, struct nugwier_requirement *requirement);
+struct nugwier_status nugwier_placed_definition(const struct nugwier_versions *versions,
+                                                const struct nugwier_version_place *places, size_t places_len,
+                                                size_t symbol, struct nugwier_definition *defined);
+
 /* The next name of a definition. If none is left, `found` is false, `names->count` is 0, and nothing else is written.
  * Otherwise `names->count` and `names->offset` go on, also after an error, so that the next call takes the name after
  * it. */
@@ -746,6 +786,9 @@ using version = struct ::nugwier_version;
 using requirement = struct ::nugwier_requirement;
 using version_names = struct ::nugwier_version_names;
 using definition = struct ::nugwier_definition;
+using placed_need = struct ::nugwier_placed_need;
+using placed_definition = struct ::nugwier_placed_definition;
+using version_place = struct ::nugwier_version_place;
 using fault = struct ::nugwier_fault;
 using name = struct ::nugwier_name;
 }

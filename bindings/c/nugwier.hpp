@@ -192,17 +192,27 @@ struct library {
 
 namespace detail {
 
+/* Places for the versions of symbols, filled for these. */
+inline std::vector<nugwier::version_place> places_of(const nugwier::versions &all)
+{
+    std::vector<nugwier::version_place> places(all.found ? 256 : 0);
+    nugwier_place_versions(&all, places.data(), places.size());
+    return places;
+}
+
 /* The version of a symbol. One that cannot be read is missing. */
-inline std::optional<symbol_version> version_of(const nugwier::versions &all, std::size_t symbol)
+inline std::optional<symbol_version> version_of(const nugwier::versions &all,
+                                                const std::vector<nugwier::version_place> &places, std::size_t symbol)
 {
     nugwier::requirement need{};
     nugwier::definition own{};
     nugwier::bytes first{};
     bool named = false;
-    if (!nugwier_requirement(&all, symbol, &need).code && need.found)
+    if (!nugwier_placed_requirement(&all, places.data(), places.size(), symbol, &need).code && need.found)
         return symbol_version{byte_view{need.name, need.name_len}.text(), byte_view{need.file, need.file_len}.text(),
                               need.hidden};
-    if (nugwier_definition(&all, symbol, &own).code || !own.found) return std::nullopt;
+    if (nugwier_placed_definition(&all, places.data(), places.size(), symbol, &own).code || !own.found)
+        return std::nullopt;
     if (nugwier_version_name(&own.names, &named, &first).code || !named) return std::nullopt;
     return symbol_version{byte_view{first.bytes, first.bytes_len}.text(), {}, own.hidden};
 }
@@ -270,11 +280,12 @@ public:
         auto table = detail::written<nugwier::symbol_table>(nugwier_symbol_table, &file_, dynamic);
         nugwier::versions all{};
         if (dynamic) expect(nugwier_version_table(&file_, &all));
-        return walk([table, all, index = std::size_t{0}]() mutable -> std::optional<listed_symbol> {
+        return walk([table, all, places = detail::places_of(all),
+                     index = std::size_t{0}]() mutable -> std::optional<listed_symbol> {
             listed_symbol one{index, {}, std::nullopt, std::nullopt};
             if (nugwier_symbol(&table.symbols, index++, &one.symbol).code) return std::nullopt;
             one.name = detail::string_at({table.strings, table.strings_len}, one.symbol.name);
-            if (all.found) one.version = detail::version_of(all, one.index);
+            if (all.found) one.version = detail::version_of(all, places, one.index);
             return one;
         });
     }

@@ -8,7 +8,6 @@ use Rattle.std.specs.Ordering.{int_eq}
 use Rattle.std.specs.Prelude.{ok_or}
 use Rattle.elf_abi.specs.Values.{dt_null, dt_strsz, dt_strtab}
 use Rattle.elf_records.specs.Dynamic.{d_un_view, dyn_reads, has_tag}
-use Rattle.elf_records.specs.Number.{ok_map}
 use Rattle.elf_records.specs.Record.{◌>>=◌}
 use Rattle.elf_records.specs.Table.{Table, table_items}
 use Rattle.elf_records.specs.declared.dynamic.Dyn.{Dyn}

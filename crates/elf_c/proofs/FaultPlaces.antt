@@ -1,5 +1,5 @@
 -- Places that are filled with the faults of a file.
-use Rattle.std.proofs.Common.{◌≡◌, ◌<◌, ◌≤◌, ◌+◌, ◌++◌, ℕ, List, [], ◌∷◌, None, Some, drop, length, map, take, slice_set, drop-drop, append_assoc, refl, ap, sym, ◌∙◌, subst, arith, rules}
+use Rattle.std.proofs.Common.{◌≡◌, ◌<◌, ◌≤◌, ◌+◌, ◌++◌, ℕ, List, [], ◌∷◌, None, Some, drop, length, map, take, slice_set, drop-drop, refl, ap, sym, ◌∙◌, subst, arith, rules}
 use Rattle.std.proofs.lemmas.List.{append-nil, drop-set-lt, length-append, map-append, take_more_set}
 use Rattle.elf.specs.ObjectFile.{ObjectFile}
 use Rattle.elf_check.specs.AllFaults.{AreAllFaults, AreFaults, Subject, subjects}

@@ -18,3 +18,5 @@ pub mod Follows
 pub mod DynamicNames
 pub mod Nearest
 pub mod FaultPlaces
+pub mod VersionPlaces
+pub mod VersionWalks

@@ -18,6 +18,8 @@ pub mod Sound
 pub mod Notes
 -- the versions of symbols
 pub mod Versions
+-- the versions of symbols in places
+pub mod VersionPlaces
 -- the names of values
 pub mod Names
 -- the texts of errors

@@ -5,6 +5,8 @@ use Rattle.elf_parts.specs.gnu_symver.Lists.{ver_def_aux_records, ver_defs, ver_
 use Rattle.elf_parts.specs.gnu_symver.Records.{version_index, version_is_hidden}
 use Rattle.elf_parts.specs.gnu_symver.Table.{Definition, Definitions, Needs, Requirement, Versions}
 use Rattle.elf_parts.specs.gnu_symver.Table.{index_of, raw_names, requirement}
+use Rattle.elf_parts.specs.declared.gnu_symver.records.VerDef.{VerDef}
+use Rattle.elf_parts.specs.declared.gnu_symver.records.VerDefAux.{VerDefAux}
 use Rattle.elf_parts.specs.declared.gnu_symver.records.VerNeed.{VerNeed}
 use Rattle.elf_parts.specs.declared.gnu_symver.records.VerNeedAux.{VerNeedAux}
 use Rattle.elf_parts.specs.declared.gnu_symver.records.VersionIndex.{VersionIndex}
@@ -30,10 +32,12 @@ needs_list e = ver_needs (table_of_c e.entries) e.count 0
 abbrev pub needs_of_c : NugwierEntries → Option Needs
 needs_of_c e = if e.found then Some (record { list = needs_list e; strings = e.strings.now }) else None
 
+abbrev pub definitions_list : NugwierEntries → List (VerDef × List VerDefAux)
+definitions_list e = ver_defs (table_of_c e.entries) e.count 0
+
 abbrev pub definitions_of_c : NugwierEntries → Option Definitions
 definitions_of_c e =
-    if e.found then Some (record { list = ver_defs (table_of_c e.entries) e.count 0; strings = e.strings.now })
-    else None
+    if e.found then Some (record { list = definitions_list e; strings = e.strings.now }) else None
 
 abbrev pub versions_of_c : NugwierVersions → Versions
 versions_of_c v = record {

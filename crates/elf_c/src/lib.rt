@@ -27,5 +27,7 @@ pub mod strings;
 pub mod symbols;
 pub mod table;
 pub mod texts;
+pub mod version_places;
 pub mod version_table;
+mod version_walks;
 pub mod versions;

@@ -5,21 +5,25 @@ ghost use Rattle.std.specs.List.{find};
 ghost use Rattle.std.specs.Option.{option_map};
 ghost use Rattle.elf_parts.specs.gnu_symver.Records.{ver_def_reads};
 ghost use Rattle.elf_parts.specs.gnu_symver.Links.{links_left, links_view};
-ghost use Rattle.elf_parts.specs.gnu_symver.Lists.{ver_need_aux_left, ver_needs_left};
+ghost use Rattle.elf_parts.specs.gnu_symver.Lists.{ver_def_aux_records, ver_need_aux_left, ver_needs_left};
 ghost use Rattle.elf_parts.specs.gnu_symver.Table.{definition, needed_version, raw_names, version_with};
 ghost use Rattle.elf_records.specs.Number.{ok_map};
 ghost use Rattle.elf_c.specs.Status.{IsWrittenIf, status_of, written};
 ghost use Rattle.elf_c.specs.Tables.{table_of_c};
+ghost use Rattle.elf_c.specs.VersionPlaces.{HoldDefinitions, HoldNeeds};
 ghost use Rattle.elf_c.specs.Versions.{SameBytes, TakesName, defined_view, definition_view};
-ghost use Rattle.elf_c.specs.inner.DefinitionLinks.{aux_of_links, definition_links};
 ghost use Rattle.elf_c.specs.Versions.{index_of_c, names_left, no_definition_in, no_more_names, no_requirement_in};
 ghost use Rattle.elf_c.specs.Versions.{versions_of_c};
-ghost use Rattle.elf_c.specs.inner.DefinitionLinks.{has_index};
+ghost use Rattle.elf_c.specs.inner.DefinitionLinks.{definition_links, has_index};
 ghost use Rattle.elf_c.specs.Versions.{needed_view, needs_list, requirement_of_c, requirement_view, version_shown};
 
 use crate::status::{NugwierStatus, done, refused};
 use crate::strings::{NugwierBytes, nugwier_string};
 use crate::table::{NugwierTable, class_in, order_in, records_in};
+use crate::version_places::{
+    NugwierPlacedDefinition, NugwierVersionPlace, definition_with, need_with,
+    nugwier_placed_definition, nugwier_placed_requirement,
+};
 use elf_parts::endian::AnyEndian;
 use elf_parts::gnu_symver::links::Links;
 use elf_parts::gnu_symver::{
@@ -95,7 +99,7 @@ pub struct NugwierDefinition<'data> {
 }
 
 // The needs.
-fn needs_in<'data>(needs: &NugwierEntries<'data>) -> VerNeedIterator<'data, AnyEndian>
+pub(crate) fn needs_in<'data>(needs: &NugwierEntries<'data>) -> VerNeedIterator<'data, AnyEndian>
     ensures { ver_needs_left result ≡ needs_list needs.now }
 {
     VerNeedIterator::new(
@@ -121,7 +125,10 @@ fn version_with(versions: VerNeedAuxIterator<'_, AnyEndian>, index: u16) -> Opti
 
 // The first needed version with this index, and the need that it belongs to.
 #[tactic(auto, using(elf_parts::proofs::Versions::needed))]
-fn first_needed(needs: VerNeedIterator<'_, AnyEndian>, index: u16) -> Option<(VerNeed, VerNeedAux)>
+pub(crate) fn first_needed(
+    needs: VerNeedIterator<'_, AnyEndian>,
+    index: u16,
+) -> Option<(VerNeed, VerNeedAux)>
     ensures { result ≡ needed_version index (ver_needs_left needs.entry) }
 {
     for (need, versions) in needs {
@@ -163,27 +170,30 @@ pub extern "C" fn nugwier_version_index(
 }
 
 // What a symbol needs, with its names.
-fn requirement_in<'data>(
+pub(crate) fn requirement_in<'data>(
     versions: &NugwierVersions<'data>,
+    places: &[NugwierVersionPlace],
     symbol: usize,
 ) -> Result<Option<NugwierRequirement<'data>>, ParseError>
-    ensures { ok_map (option_map needed_view) result ≡ requirement_of_c versions.now symbol }
+    ensures { HoldNeeds versions.now.needs places.now →
+        ok_map (option_map needed_view) result ≡ requirement_of_c versions.now symbol }
 {
     if !versions.needs.found {
         return Ok(None);
     }
     let index = index_of(versions, symbol)?;
-    let Some((need, version)) = first_needed(needs_in(&versions.needs), index.index()) else {
+    let need = need_with(places, &versions.needs, index.index());
+    if need.found == 0 {
         return Ok(None);
-    };
+    }
     let strings = StringTable::new(versions.needs.strings);
-    let file = strings.get_raw(need.vn_file as usize)?;
-    let name = strings.get_raw(version.vna_name as usize)?;
+    let file = strings.get_raw(need.file as usize)?;
+    let name = strings.get_raw(need.name as usize)?;
     Ok(Some(NugwierRequirement {
         found: true,
         hidden: index.is_hidden(),
-        flags: version.vna_flags,
-        hash: version.vna_hash,
+        flags: need.flags,
+        hash: need.hash,
         file,
         name,
     }))
@@ -202,18 +212,7 @@ pub extern "C" fn nugwier_requirement<'data>(
     ensures requirement { IsWrittenIf requirement_view no_requirement_in requirement.new requirement.old
         (requirement_of_c versions.now symbol) }
 {
-    match requirement_in(versions, symbol) {
-        Ok(Some(found)) => {
-            *requirement = found;
-            requirement.found = true;
-            done()
-        }
-        Ok(None) => {
-            requirement.found = false;
-            done()
-        }
-        Err(error) => refused(&error),
-    }
+    nugwier_placed_requirement(versions, &[], symbol, requirement)
 }
 
 // The table that C gives, again.
@@ -227,24 +226,26 @@ fn same_table<'data>(table: &NugwierTable<'data>) -> NugwierTable<'data>
     }
 }
 
-// The links of a definition's names, as C holds them.
-fn names_at<'data>(
+// The names of a definition, none of which is taken yet.
+fn names_of<'data>(
     definitions: &NugwierEntries<'data>,
-    names: &Links<'data, AnyEndian, VerDefAux>,
+    definition: &NugwierPlacedDefinition,
 ) -> NugwierVersionNames<'data>
-    requires { links_view names.now ≡ table_of_c definitions.now.entries }
-    ensures { names_left result ≡ raw_names definitions.now.strings.now (aux_of_links names.now) }
+    ensures { names_left result ≡ raw_names definitions.now.strings.now
+        (ver_def_aux_records (table_of_c definitions.now.entries) definition.now.count definition.now.offset) }
 {
     NugwierVersionNames {
-        count: names.limit(),
-        offset: names.offset(),
+        count: definition.count,
+        offset: definition.offset,
         entries: same_table(&definitions.entries),
         strings: definitions.strings,
     }
 }
 
 // The links of the definitions.
-fn definitions_in<'data>(definitions: &NugwierEntries<'data>) -> Links<'data, AnyEndian, VerDef>
+pub(crate) fn definitions_in<'data>(
+    definitions: &NugwierEntries<'data>,
+) -> Links<'data, AnyEndian, VerDef>
     ensures items { links_left ver_def_reads.record_at (λ x. x.vd_next) result ≡ definition_links definitions.now }
     ensures view { links_view result ≡ table_of_c definitions.now.entries }
 {
@@ -258,7 +259,7 @@ fn definitions_in<'data>(definitions: &NugwierEntries<'data>) -> Links<'data, An
 }
 
 // The first definition with this index, and its offset.
-fn first_defined(definitions: &NugwierEntries<'_>, index: u16) -> Option<(usize, VerDef)>
+pub(crate) fn first_defined(definitions: &NugwierEntries<'_>, index: u16) -> Option<(usize, VerDef)>
     ensures { result ≡ find (has_index index) (definition_links definitions.now) }
 {
     for (start, definition) in definitions_in(definitions) {
@@ -270,27 +271,28 @@ fn first_defined(definitions: &NugwierEntries<'_>, index: u16) -> Option<(usize,
 }
 
 // What a symbol is defined with.
-#[tactic(auto, using(crate::proofs::Definitions::defined))]
-fn definition_in<'data>(
+pub(crate) fn definition_in<'data>(
     versions: &NugwierVersions<'data>,
+    places: &[NugwierVersionPlace],
     symbol: usize,
 ) -> Result<Option<NugwierDefinition<'data>>, ParseError>
-    ensures { ok_map (option_map defined_view) result ≡ definition (versions_of_c versions.now) symbol }
+    ensures { HoldDefinitions versions.now.definitions places.now →
+        ok_map (option_map defined_view) result ≡ definition (versions_of_c versions.now) symbol }
 {
     if !versions.definitions.found {
         return Ok(None);
     }
     let index = index_of(versions, symbol)?;
-    let Some((start, definition)) = first_defined(&versions.definitions, index.index()) else {
+    let definition = definition_with(places, &versions.definitions, index.index());
+    if definition.found == 0 {
         return Ok(None);
-    };
-    let names = definition.aux_links(&definitions_in(&versions.definitions), start);
+    }
     Ok(Some(NugwierDefinition {
         found: true,
         hidden: index.is_hidden(),
-        flags: definition.vd_flags,
-        hash: definition.vd_hash,
-        names: names_at(&versions.definitions, &names),
+        flags: definition.flags,
+        hash: definition.hash,
+        names: names_of(&versions.definitions, &definition),
     }))
 }
 
@@ -306,18 +308,7 @@ pub extern "C" fn nugwier_definition<'data>(
     ensures defined { IsWrittenIf definition_view no_definition_in defined.new defined.old
         (definition (versions_of_c versions.now) symbol) }
 {
-    match definition_in(versions, symbol) {
-        Ok(Some(one)) => {
-            *defined = one;
-            defined.found = true;
-            done()
-        }
-        Ok(None) => {
-            defined.found = false;
-            done()
-        }
-        Err(error) => refused(&error),
-    }
+    nugwier_placed_definition(versions, &[], symbol, defined)
 }
 
 /// Takes the next name of a version. If none is left, `found` is false, the count of `names` is 0, and nothing else is

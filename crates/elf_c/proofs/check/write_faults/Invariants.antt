@@ -1,4 +1,4 @@
-use Rattle.std.proofs.Common.{ℕ, ◌-◌, length}
+use Rattle.std.proofs.Common.{◌-◌, length}
 use Rattle.elf_records.specs.Endian.{any_is_little}
 use Rattle.elf_check.specs.FaultWalk.{checking}
 use Rattle.elf_c.specs.File.{file_over}
