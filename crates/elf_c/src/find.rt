@@ -49,7 +49,7 @@ pub(crate) fn found_shown(found: &Option<(usize, Symbol)>) -> NugwierFound
     }
 }
 
-// Writes what was found. Of nothing the compiler writes zeros at once, and not each field of an answer.
+// Writes what was found. Where nothing is, the compiler writes zeros at once; an answer it writes field by field.
 #[inline(always)]
 pub(crate) fn write_answer(
     answer: Option<(usize, Symbol)>,

@@ -226,7 +226,7 @@ fn same_table<'data>(table: &NugwierTable<'data>) -> NugwierTable<'data>
     }
 }
 
-// The names of a definition, none of which is taken yet.
+// The names of a definition, before the first is taken.
 fn names_of<'data>(
     definitions: &NugwierEntries<'data>,
     definition: &NugwierPlacedDefinition,

@@ -25,9 +25,6 @@ use nugwier_taking::taking::NotTaken;
 use std::alloc::{AllocError, Global};
 use std::io::Write;
 
-// The number of places for the versions that a file needs, and for those that it defines: one for each version index.
-const PLACES: usize = 32_768;
-
 /// All faults of a file, or why it cannot be read whole.
 pub type Checked = Result<Vec<FileFault>, ParseError>;
 
@@ -82,18 +79,30 @@ fn faults_of<E: EndianParse>(
 ) -> Result<Vec<FileFault>, AllocError>
     ensures { IfOk result (λ faults. AreAllFaults (object_file E.little (view file.now)) faults.items) }
 {
-    let mut needed = empty_places(alloc);
-    let mut defined = empty_places(alloc);
+    let count = count_places(file);
+    let mut needed = empty_places(alloc, count);
+    let mut defined = empty_places(alloc, count);
     all_faults_in(alloc, file, &mut needed, &mut defined)
 }
 
+// The number of places that the version indexes of the symbols take: one more than the greatest.
+fn count_places<E: EndianParse>(file: &ElfBytes<'_, E>) -> usize {
+    let mut count = 0;
+    if let Ok(Some(versions)) = file.symbol_version_table() {
+        for index in versions.indexes() {
+            count = count.max(index.index() as usize + 1);
+        }
+    }
+    count
+}
+
 // Empty places, or none if there is no memory for them. Without a place a version is looked up by a walk.
-fn empty_places<T: Copy>(alloc: Global) -> Vec<Option<T>> {
-    let mut places = match Vec::with_capacity(alloc, PLACES) {
+fn empty_places<T: Copy>(alloc: Global, count: usize) -> Vec<Option<T>> {
+    let mut places = match Vec::with_capacity(alloc, count) {
         Ok(places) => places,
         Err(_) => return Vec::new(alloc),
     };
-    while places.len() < PLACES {
+    while places.len() < count {
         places.push_reserved(None);
     }
     places

@@ -3,7 +3,7 @@ use Rattle.std.proofs.Common.{length, ◌-◌, ◌≡◌, ◌≤◌, vec_capacit
 use Rattle.nugwier_sections.proofs.check.empty_places.Given as goal
 
 abbrev pub invariant-loop-places : goal.invariant-loop-places
-invariant-loop-places g l = (length l.places.items ≤ 32768) × (vec_capacity l.places ≡ 32768)
+invariant-loop-places g l = (length l.places.items ≤ l.count) × (vec_capacity l.places ≡ l.count)
 
 abbrev pub decreases-loop-places : goal.decreases-loop-places
-decreases-loop-places g l = 32768 - length l.places.items
+decreases-loop-places g l = l.count - length l.places.items
