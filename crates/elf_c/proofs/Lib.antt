@@ -19,4 +19,3 @@ pub mod DynamicNames
 pub mod Nearest
 pub mod FaultPlaces
 pub mod VersionPlaces
-pub mod VersionWalks

@@ -1,12 +1,11 @@
 -- Places of version indexes: each holds the first needed version and the first definition with its index.
-use Rattle.std.specs.Prelude.{◌≡◌, ◌==◌, ◌<◌, ℕ, if◌then◌else◌, length, slice_get, List, Option, Some, None}
-use Rattle.std.specs.Option.{option_map}
+use Rattle.std.specs.Prelude.{◌≡◌, ◌==◌, ◌<◌, ℕ, if◌then◌else◌, length, List, Option, Some, None}
+use Rattle.std.specs.Option.{option_and_then, option_map}
 use Rattle.elf_parts.specs.gnu_symver.Lists.{ver_def_aux_records}
-use Rattle.elf_parts.specs.gnu_symver.Table.{defined_version, needed_version}
+use Rattle.elf_parts.specs.gnu_symver.Table.{defined_version, held_at, kept_at, needed_of, needed_version}
 use Rattle.elf_parts.specs.declared.gnu_symver.records.VerDef.{VerDef}
 use Rattle.elf_parts.specs.declared.gnu_symver.records.VerDefAux.{VerDefAux}
-use Rattle.elf_parts.specs.declared.gnu_symver.records.VerNeed.{VerNeed}
-use Rattle.elf_parts.specs.declared.gnu_symver.records.VerNeedAux.{VerNeedAux}
+use Rattle.elf_parts.specs.declared.gnu_symver.table.Needed.{Needed}
 use Rattle.elf_records.specs.Table.{Table}
 use Rattle.elf_c.specs.Tables.{table_of_c}
 use Rattle.elf_c.specs.Versions.{definitions_list, needs_list}
@@ -18,35 +17,20 @@ use Rattle.elf_c.specs.declared.versions.NugwierVersions.{NugwierVersions}
 
 -- ---- needed versions
 
--- what a place holds of a needed version; the name of its file is at this offset
-abbrev pub placed_need : ℕ → VerNeedAux → NugwierPlacedNeed
-placed_need file version = record {
-  found = 1;
-  flags = version.vna_flags;
-  hash = version.vna_hash;
-  file = file;
-  name = version.vna_name;
-}
-
-abbrev pub need_of : VerNeed × VerNeedAux → NugwierPlacedNeed
-need_of pair = placed_need pair.0.vn_file pair.1
-
 -- the needed version that is held, if there is one
-abbrev pub need_held : NugwierPlacedNeed → Option NugwierPlacedNeed
-need_held p = if p.found == 0 then None else Some p
+abbrev pub need_held : NugwierPlacedNeed → Option Needed
+need_held p =
+    if p.found == 0 then None
+    else Some (record { file = p.file; name = p.name; hash = p.hash; flags = p.flags })
 
 -- the one that the place of an index holds
-abbrev pub need_in : Option NugwierVersionPlace → Option NugwierPlacedNeed
-need_in None = None
-need_in (Some place) = need_held place.need
-
-abbrev pub need_at : List NugwierVersionPlace → ℕ → Option NugwierPlacedNeed
-need_at places k = need_in (slice_get places k)
+abbrev pub need_at : List NugwierVersionPlace → ℕ → Option Needed
+need_at places k = held_at (λ (place : NugwierVersionPlace). need_held place.need) places k
 
 -- each place holds the first needed version with its index, if there is one
 abbrev pub HoldNeeds : NugwierEntries → List NugwierVersionPlace → Type 0
 HoldNeeds e places =
-    (k : ℕ) → k < length places → need_at places k ≡ option_map need_of (needed_version k (needs_list e))
+    (k : ℕ) → k < length places → need_at places k ≡ option_map needed_of (needed_version k (needs_list e))
 
 -- ---- definitions
 
@@ -65,13 +49,13 @@ defined_held t p =
     if p.found == 0 then None
     else Some (record { hash = p.hash; flags = p.flags; names = ver_def_aux_records t p.count p.offset })
 
--- the one that the place of an index holds
-abbrev pub defined_in : Table → Option NugwierVersionPlace → Option Defined
-defined_in t None = None
-defined_in t (Some place) = defined_held t place.definition
+-- what the place of an index has of a definition
+abbrev pub definition_at : List NugwierVersionPlace → ℕ → Option NugwierPlacedDefinition
+definition_at places k = kept_at (λ (place : NugwierVersionPlace). place.definition) places k
 
+-- the one that it holds
 abbrev pub defined_at : Table → List NugwierVersionPlace → ℕ → Option Defined
-defined_at t places k = defined_in t (slice_get places k)
+defined_at t places k = option_and_then (defined_held t) (definition_at places k)
 
 -- each place holds the first definition with its index, if there is one
 abbrev pub HoldDefinitions : NugwierEntries → List NugwierVersionPlace → Type 0

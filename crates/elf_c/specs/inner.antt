@@ -6,7 +6,5 @@ pub mod OwnTables
 pub mod Steps
 -- the definitions of versions as linked records
 pub mod DefinitionLinks
--- walks over needed versions
-pub mod VersionWalks
 -- text that is written piece by piece
 pub mod Writing

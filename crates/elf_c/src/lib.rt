@@ -29,5 +29,4 @@ pub mod table;
 pub mod texts;
 pub mod version_places;
 pub mod version_table;
-mod version_walks;
 pub mod versions;

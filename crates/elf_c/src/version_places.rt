@@ -3,24 +3,23 @@ ghost use Rattle.std.specs.Prelude.{◌≡◌, ◌==◌, ◌<◌, ℕ, length, i
 ghost use Rattle.std.specs.Option.{option_map, option_or};
 ghost use Rattle.elf_parts.specs.gnu_symver.Links.{links_view};
 ghost use Rattle.elf_parts.specs.gnu_symver.Lists.{ver_def_with_aux};
-ghost use Rattle.elf_parts.specs.gnu_symver.Table.{defined_version, definition, needed_version};
+ghost use Rattle.elf_parts.specs.gnu_symver.Table.{defined_version, definition, needed_entry, needed_of, needed_version};
 ghost use Rattle.elf_records.specs.Table.{Table};
 ghost use Rattle.elf_c.specs.Status.{IsWrittenIf, status_of};
 ghost use Rattle.elf_c.specs.Tables.{table_of_c};
 ghost use Rattle.elf_c.specs.VersionPlaces.{HoldDefinitions, HoldNeeds, HoldVersions};
-ghost use Rattle.elf_c.specs.VersionPlaces.{defined_at, defined_held, defined_of, need_at, need_held, need_of};
+ghost use Rattle.elf_c.specs.VersionPlaces.{defined_at, defined_held, defined_of, need_at, need_held};
 ghost use Rattle.elf_c.specs.Versions.{definition_view, definitions_list, needs_list, no_definition_in, no_requirement_in};
 ghost use Rattle.elf_c.specs.Versions.{requirement_of_c, requirement_view, versions_of_c};
 
 use crate::status::{NugwierStatus, done, refused};
-use crate::version_walks::{place_needs, placed_need};
 use crate::versions::{
     NugwierDefinition, NugwierEntries, NugwierRequirement, NugwierVersions, definition_in,
-    definitions_in, first_defined, first_needed, needs_in, requirement_in,
+    definitions_in, first_defined, needs_in, requirement_in,
 };
 use elf_parts::endian::AnyEndian;
-use elf_parts::gnu_symver::VerDef;
 use elf_parts::gnu_symver::links::Links;
+use elf_parts::gnu_symver::{NeedPlace, VerDef, VerNeedAux, first_needed, hold_needs};
 
 /// The first needed version with a version index; `found` is 0 if there is none. Its flags, its hash, and where the
 /// names of its file and of the version begin in the strings of the needs, in bytes.
@@ -64,6 +63,36 @@ fn no_need() -> NugwierPlacedNeed
         hash: 0,
         file: 0,
         name: 0,
+    }
+}
+
+// What is placed of a needed version. `file` is the offset of the name of its file.
+fn placed_need(file: u32, version: &VerNeedAux) -> NugwierPlacedNeed
+    ensures { need_held result ≡ Some (needed_entry file version.now) }
+{
+    NugwierPlacedNeed {
+        found: 1,
+        flags: version.vna_flags,
+        hash: version.vna_hash,
+        file,
+        name: version.vna_name,
+    }
+}
+
+impl NeedPlace for NugwierVersionPlace {
+    ghost use Rattle.elf_c.specs.VersionPlaces.{need_held};
+    ghost use Rattle.elf_c.specs.declared.version_places.NugwierPlacedDefinition.{NugwierPlacedDefinition};
+
+    ghost held = { λ place. need_held place.need };
+
+    ghost Kept = { NugwierPlacedDefinition };
+
+    ghost kept = { λ place. place.definition };
+
+    fn hold(&mut self, file: u32, version: &VerNeedAux) {
+        if self.need.found == 0 {
+            self.need = placed_need(file, version);
+        }
     }
 }
 
@@ -147,7 +176,7 @@ pub extern "C" fn nugwier_place_versions(
         need: no_need(),
         definition: no_definition(),
     });
-    place_needs(places, &versions.needs);
+    hold_needs(places, needs_in(&versions.needs));
     place_definitions(places, &versions.definitions);
 }
 
@@ -158,7 +187,7 @@ pub(crate) fn need_with(
     index: u16,
 ) -> NugwierPlacedNeed
     ensures { HoldNeeds needs.now places.now →
-        need_held result ≡ option_map need_of (needed_version index (needs_list needs.now)) }
+        need_held result ≡ option_map needed_of (needed_version index (needs_list needs.now)) }
 {
     if let Some(place) = places.get(index as usize) {
         return place.need;

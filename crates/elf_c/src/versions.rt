@@ -5,8 +5,8 @@ ghost use Rattle.std.specs.List.{find};
 ghost use Rattle.std.specs.Option.{option_map};
 ghost use Rattle.elf_parts.specs.gnu_symver.Records.{ver_def_reads};
 ghost use Rattle.elf_parts.specs.gnu_symver.Links.{links_left, links_view};
-ghost use Rattle.elf_parts.specs.gnu_symver.Lists.{ver_def_aux_records, ver_need_aux_left, ver_needs_left};
-ghost use Rattle.elf_parts.specs.gnu_symver.Table.{definition, needed_version, raw_names, version_with};
+ghost use Rattle.elf_parts.specs.gnu_symver.Lists.{ver_def_aux_records, ver_needs_left};
+ghost use Rattle.elf_parts.specs.gnu_symver.Table.{definition, raw_names};
 ghost use Rattle.elf_records.specs.Number.{ok_map};
 ghost use Rattle.elf_c.specs.Status.{IsWrittenIf, status_of, written};
 ghost use Rattle.elf_c.specs.Tables.{table_of_c};
@@ -26,9 +26,7 @@ use crate::version_places::{
 };
 use elf_parts::endian::AnyEndian;
 use elf_parts::gnu_symver::links::Links;
-use elf_parts::gnu_symver::{
-    VerDef, VerDefAux, VerNeed, VerNeedAux, VerNeedAuxIterator, VerNeedIterator, VersionIndex,
-};
+use elf_parts::gnu_symver::{VerDef, VerDefAux, VerNeedIterator, VersionIndex};
 use elf_parts::parse::ParseError;
 use elf_parts::string_table::StringTable;
 
@@ -109,34 +107,6 @@ pub(crate) fn needs_in<'data>(needs: &NugwierEntries<'data>) -> VerNeedIterator<
         0,
         needs.entries.bytes,
     )
-}
-
-// The first of the versions of one file with this index.
-fn version_with(versions: VerNeedAuxIterator<'_, AnyEndian>, index: u16) -> Option<VerNeedAux>
-    ensures { result ≡ version_with index (ver_need_aux_left versions.entry) }
-{
-    for version in versions {
-        if version.vna_other == index {
-            return Some(version);
-        }
-    }
-    None
-}
-
-// The first needed version with this index, and the need that it belongs to.
-#[tactic(auto, using(elf_parts::proofs::Versions::needed))]
-pub(crate) fn first_needed(
-    needs: VerNeedIterator<'_, AnyEndian>,
-    index: u16,
-) -> Option<(VerNeed, VerNeedAux)>
-    ensures { result ≡ needed_version index (ver_needs_left needs.entry) }
-{
-    for (need, versions) in needs {
-        if let Some(version) = version_with(versions, index) {
-            return Some((need, version));
-        }
-    }
-    None
 }
 
 // The version index of a symbol.

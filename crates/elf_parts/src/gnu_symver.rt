@@ -12,6 +12,6 @@ pub use lists::{
 };
 pub use records::{VerDef, VerDefAux, VerNeed, VerNeedAux, VersionIndex, VersionIndexTable};
 pub use table::{
-    IndexedVersions, Needed, PlacedVersions, SymbolDefinition, SymbolNamesIterator,
-    SymbolRequirement, SymbolVersionTable, SymbolVersions,
+    IndexedVersions, NeedPlace, Needed, PlacedVersions, SymbolDefinition, SymbolNamesIterator,
+    SymbolRequirement, SymbolVersionTable, SymbolVersions, first_needed, hold_needs,
 };

@@ -79,33 +79,21 @@ fn faults_of<E: EndianParse>(
 ) -> Result<Vec<FileFault>, AllocError>
     ensures { IfOk result (λ faults. AreAllFaults (object_file E.little (view file.now)) faults.items) }
 {
-    let count = count_places(file);
+    let count = match file.symbol_version_table() {
+        Ok(Some(versions)) => versions.place_count(),
+        _ => 0,
+    };
     let mut needed = empty_places(alloc, count);
     let mut defined = empty_places(alloc, count);
     all_faults_in(alloc, file, &mut needed, &mut defined)
 }
 
-// The number of places that the version indexes of the symbols take: one more than the greatest.
-fn count_places<E: EndianParse>(file: &ElfBytes<'_, E>) -> usize {
-    let mut count = 0;
-    if let Ok(Some(versions)) = file.symbol_version_table() {
-        for index in versions.indexes() {
-            count = count.max(index.index() as usize + 1);
-        }
-    }
-    count
-}
-
 // Empty places, or none if there is no memory for them. Without a place a version is looked up by a walk.
 fn empty_places<T: Copy>(alloc: Global, count: usize) -> Vec<Option<T>> {
-    let mut places = match Vec::with_capacity(alloc, count) {
+    match vec![in alloc; None; count] {
         Ok(places) => places,
-        Err(_) => return Vec::new(alloc),
-    };
-    while places.len() < count {
-        places.push_reserved(None);
+        Err(_) => Vec::new(alloc),
     }
-    places
 }
 
 /// Says that the file of this path is sound, or its faults.

@@ -1,8 +1,9 @@
 -- The versions of the symbols of a file: what a symbol needs of another file, and what it is defined with.
 use Rattle.std.specs.Prelude.{◌≡◌, ℕ, ◌^◌, ◌<◌, ◌==◌, Bool, ⊤, ◌⊎◌, Option, Some, None}
-use Rattle.std.specs.Prelude.{List, [], ◌∷◌, ◌++◌, length, map, MatchOption, MatchResult, Result, Ok, Err}
+use Rattle.std.specs.Prelude.{List, [], ◌∷◌, ◌++◌, ◌+◌, length, map, max, slice_get, MatchOption, MatchResult}
+use Rattle.std.specs.Prelude.{Result, Ok, Err}
 use Rattle.std.specs.List.{find}
-use Rattle.std.specs.Option.{option_map}
+use Rattle.std.specs.Option.{option_and_then, option_map}
 use Rattle.elf_records.specs.Number.{ok_map}
 use Rattle.elf_records.specs.StringTable.{string_at, strings_view, GivesText}
 use Rattle.elf_records.specs.Table.{Table, table_get, table_view}
@@ -46,6 +47,11 @@ pub record Versions : Type 0 where
 abbrev pub index_of : Versions → ℕ → Result VersionIndex ParseError
 index_of versions i = table_get version_index_reads versions.indexes i
 
+-- how many places hold each of these version indexes: one more than the greatest
+abbrev pub place_count : List VersionIndex → ℕ
+place_count [] = 0
+place_count (index ∷ indexes) = max (version_index index + 1) (place_count indexes)
+
 -- ---- the version that a symbol needs of another file
 
 -- each need with each of its versions, in order
@@ -81,6 +87,14 @@ needed_entry file version = record {
 
 abbrev pub needed_of : VerNeed × VerNeedAux → Needed
 needed_of pair = needed_entry pair.0.vn_file pair.1
+
+-- what the place of an index holds, if it has a place
+abbrev pub held_at : {P X : Type 0} → (P → Option X) → List P → ℕ → Option X
+held_at held places index = option_and_then held (slice_get places index)
+
+-- what else it has
+abbrev pub kept_at : {P X : Type 0} → (P → X) → List P → ℕ → Option X
+kept_at kept places index = option_map kept (slice_get places index)
 
 abbrev pub requirement_of : List ℕ → Bool → Needed → Requirement
 requirement_of strings hidden needed = record {

@@ -1,17 +1,16 @@
 -- Places of some version indexes, and the first entry with each.
-use Rattle.std.specs.Prelude.{◌≡◌, ◌<◌, ◌+◌, ℕ, ⊤, length, max, MatchOption, slice_index_or, is_some, if◌then◌else◌}
-use Rattle.std.specs.Prelude.{List, [], ◌∷◌, Option, Some, None}
+use Rattle.std.specs.Prelude.{◌≡◌, ◌<◌, ℕ, ⊤, length, MatchOption, slice_index_or, is_some, if◌then◌else◌}
+use Rattle.std.specs.Prelude.{List, Option, Some, None}
 use Rattle.std.specs.Option.{option_map}
 use Rattle.elf_records.specs.Table.{Table, table_items}
 use Rattle.elf_parts.specs.gnu_symver.Lists.{ver_defs_left}
-use Rattle.elf_parts.specs.gnu_symver.Records.{version_index, version_index_reads}
-use Rattle.elf_parts.specs.gnu_symver.Table.{Definitions, Needs, defined_version, needed_of, needed_version}
+use Rattle.elf_parts.specs.gnu_symver.Records.{version_index_reads}
+use Rattle.elf_parts.specs.gnu_symver.Table.{Definitions, Needs, defined_version, needed_of, needed_version, place_count}
 use Rattle.elf_parts.specs.declared.gnu_symver.records.VerDef.{VerDef}
 use Rattle.elf_parts.specs.declared.gnu_symver.records.VerDefAux.{VerDefAux}
 use Rattle.elf_parts.specs.declared.gnu_symver.lists.EntryIterator.{EntryIterator}
 use Rattle.elf_parts.specs.declared.gnu_symver.records.VerNeed.{VerNeed}
 use Rattle.elf_parts.specs.declared.gnu_symver.records.VerNeedAux.{VerNeedAux}
-use Rattle.elf_parts.specs.declared.gnu_symver.records.VersionIndex.{VersionIndex}
 use Rattle.elf_parts.specs.declared.gnu_symver.table.Needed.{Needed}
 
 -- what the place of an index holds, if it has a place
@@ -42,11 +41,6 @@ abbrev pub HoldDefinitions : {E : Type 0} → List (Option (EntryIterator E VerD
     Type 0
 HoldDefinitions slots None = ⊤
 HoldDefinitions slots (Some definitions) = HoldDefined slots definitions.list
-
--- how many places hold each of these version indexes: one more than the greatest
-abbrev pub place_count : List VersionIndex → ℕ
-place_count [] = 0
-place_count (index ∷ indexes) = max (version_index index + 1) (place_count indexes)
 
 -- the places of a table: none if there is nothing to look up, else those for the version indexes of the symbols
 abbrev pub places_for : {X : Type 0} → Option X → Table → ℕ

@@ -4,7 +4,7 @@ use Rattle.std.specs.Option.{option_map, option_or}
 use Rattle.elf_parts.specs.inner.Placed.{slot}
 use Rattle.elf_records.specs.Table.{Table}
 use Rattle.elf_parts.specs.gnu_symver.Lists.{ver_need_aux_records}
-use Rattle.elf_parts.specs.gnu_symver.Table.{needed_entry, version_with}
+use Rattle.elf_parts.specs.gnu_symver.Table.{held_at, needed_entry, version_with}
 use Rattle.elf_parts.specs.declared.gnu_symver.records.VerNeedAux.{VerNeedAux}
 use Rattle.elf_parts.specs.declared.gnu_symver.table.Needed.{Needed}
 use Rattle.elf_parts.specs.declared.gnu_symver.table.walked.Stretch.{Stretch}
@@ -17,21 +17,25 @@ stretch_length = 1024
 abbrev pub first_with : Table → ℕ → ℕ → ℕ → Option VerNeedAux
 first_with t k n o = version_with k (ver_need_aux_records t n o)
 
+-- ---- places, by what a place holds
+
 -- a walk of this number of entries came from one offset to another, and an index whose place is still empty is the
 -- index of none of them
-abbrev pub Passes : List (Option Needed) → Table → ℕ → ℕ → ℕ → Type 0
-Passes slots t steps from to =
-    (n k : ℕ) → k < length slots → slot slots k ≡ None → first_with t k n from ≡ first_with t k (n - steps) to
+abbrev pub Passes : {P : Type 0} → (P → Option Needed) → List P → Table → ℕ → ℕ → ℕ → Type 0
+Passes held places t steps from to =
+    (n k : ℕ) → k < length places → held_at held places k ≡ None →
+    first_with t k n from ≡ first_with t k (n - steps) to
 
 -- each of the stretches that are stored was walked
-abbrev pub AreWalked : List (Option Needed) → Table → List (Option Stretch) → Type 0
-AreWalked slots t stretches =
-    (i : ℕ) → IfSome (slot stretches i) (λ s. Passes slots t stretch_length s.from s.to)
+abbrev pub AreWalked : {P : Type 0} → (P → Option Needed) → List P → Table → List (Option Stretch) → Type 0
+AreWalked held places t stretches =
+    (i : ℕ) → IfSome (slot stretches i) (λ s. Passes held places t stretch_length s.from s.to)
 
 -- what the place of an index holds, or else what the first n versions from an offset on have for it
-abbrev pub held_or_left : List (Option Needed) → ℕ → Table → ℕ → ℕ → ℕ → Option Needed
-held_or_left slots file t k n o = option_or (slot slots k) (option_map (needed_entry file) (first_with t k n o))
+abbrev pub held_or_left : {P : Type 0} → (P → Option Needed) → List P → ℕ → Table → ℕ → ℕ → ℕ → Option Needed
+held_or_left held places file t k n o =
+    option_or (held_at held places k) (option_map (needed_entry file) (first_with t k n o))
 
 -- no place that was filled is empty
-abbrev pub StayFilled : List (Option Needed) → List (Option Needed) → Type 0
-StayFilled old new = (k : ℕ) → k < length new → slot new k ≡ None → slot old k ≡ None
+abbrev pub StayFilled : {P : Type 0} → (P → Option Needed) → List P → List P → Type 0
+StayFilled held old new = (k : ℕ) → k < length new → held_at held new k ≡ None → held_at held old k ≡ None

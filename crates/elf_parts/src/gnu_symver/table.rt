@@ -1,19 +1,20 @@
 //! The versions of the symbols of a file (GNU symbol versioning).
-ghost use Rattle.std.specs.Prelude.{◌≡◌, ◌==◌, ◌<◌, ◌≤◌, ◌^◌, length, map};
+ghost use Rattle.std.specs.Prelude.{◌≡◌, ◌==◌, ◌<◌, ◌≤◌, ◌^◌, length};
 ghost use Rattle.std.specs.Iterator.{item_count};
 ghost use Rattle.std.specs.Option.{option_map};
 ghost use Rattle.elf_records.specs.Number.{ok_map};
 ghost use Rattle.elf_records.specs.StringTable.{strings_view};
 ghost use Rattle.elf_parts.specs.gnu_symver.Table.{defined_version, definition, definition_by, definition_view};
 ghost use Rattle.elf_parts.specs.gnu_symver.Table.{definitions_view, index_of, needed_entry};
-ghost use Rattle.elf_parts.specs.gnu_symver.Table.{names_left, needed_version, needs_view, raw_names, requirement};
-ghost use Rattle.elf_parts.specs.gnu_symver.Table.{requirement_of};
+ghost use Rattle.elf_parts.specs.gnu_symver.Table.{names_left, needed_version, needs_view, place_count, raw_names};
+ghost use Rattle.elf_parts.specs.gnu_symver.Table.{requirement, requirement_of};
 ghost use Rattle.elf_parts.specs.gnu_symver.Lists.{aux_view, ver_def_aux_left, ver_def_view, ver_defs_left};
 ghost use Rattle.elf_parts.specs.gnu_symver.Lists.{ver_need_aux_left};
 ghost use Rattle.elf_parts.specs.gnu_symver.Lists.{ver_needs_left};
 ghost use Rattle.elf_parts.specs.gnu_symver.Table.{version_with, versions_view};
 ghost use Rattle.elf_parts.specs.gnu_symver.Table.{GivesRequirement, GivesTexts, HasFewNames, YieldsName};
-ghost use Rattle.elf_records.specs.Table.{table_view};
+ghost use Rattle.elf_parts.specs.gnu_symver.Records.{version_index_reads};
+ghost use Rattle.elf_records.specs.Table.{table_items, table_view};
 
 mod indexed;
 mod look_up;
@@ -30,6 +31,7 @@ use crate::string_table::StringTable;
 pub use indexed::IndexedVersions;
 pub use look_up::SymbolVersions;
 pub use placed::PlacedVersions;
+pub use walked::{NeedPlace, hold_needs};
 
 /// The version of a symbol that another file must have: the name of that file, the name, the hash and the flags of
 /// the version, and whether the symbol's version index is hidden.
@@ -110,9 +112,9 @@ fn version_with<E: EndianParse>(
     None
 }
 
-// The first needed version with this index, and the need that it belongs to.
+/// Returns the first needed version with an index, and the need that it belongs to.
 #[tactic(auto, using(crate::proofs::Versions::needed))]
-fn first_needed<E: EndianParse>(
+pub fn first_needed<E: EndianParse>(
     needs: VerNeedIterator<'_, E>,
     index: u16,
 ) -> Option<(VerNeed, VerNeedAux)>
@@ -259,6 +261,19 @@ impl<'data, E: EndianParse> SymbolVersionTable<'data, E> {
         ensures { table_view result ≡ (versions_view self.now).indexes }
     {
         self.indexes
+    }
+
+    /// Returns how many places the version indexes of the symbols take: one more than the greatest, and 0 if there are
+    /// none.
+    pub fn place_count(&self) -> usize
+        ensures count { result ≡ place_count (table_items version_index_reads (versions_view self.now).indexes) }
+        ensures bound { result ≤ 2 ^ 16 }
+    {
+        let mut count = 0;
+        for index in self.indexes {
+            count = count.max(index.index() as usize + 1);
+        }
+        count
     }
 
     /// Returns the version index of a symbol, counted from 0, or the error of `ParsingTable::get`.

@@ -3,13 +3,12 @@ ghost use Rattle.std.specs.Prelude.{◌≡◌, ◌≤◌, ◌^◌, if◌then◌e
 ghost use Rattle.std.specs.Prelude.{IfOk, IsNone, IsOk};
 ghost use Rattle.elf_parts.specs.gnu_symver.Table.{versions_view};
 ghost use Rattle.elf_parts.specs.gnu_symver.Records.{version_index_reads};
-ghost use Rattle.elf_parts.specs.inner.Placed.{place_count};
-ghost use Rattle.elf_records.specs.Table.{table_items, table_view};
+ghost use Rattle.elf_records.specs.Table.{table_items};
 
 use super::placed::{definition_by_places, place_definitions, place_needs, requirement_by_places};
 use super::{
     Needed, SymbolDefinition, SymbolRequirement, SymbolVersionTable, SymbolVersions,
-    VerDefIterator, VersionIndex, VersionIndexTable,
+    VerDefIterator, VersionIndex,
 };
 use crate::endian::EndianParse;
 use crate::parse::ParseError;
@@ -41,18 +40,6 @@ impl<'a, 'data, E: EndianParse, A: Allocator> Model for IndexedVersions<'a, 'dat
         × (length s.defined.items ≡ places_for s.versions.now.definitions (versions_view s.versions.now).indexes)
         × (length s.needed.items ≤ 2 ^ 16) × (length s.defined.items ≤ 2 ^ 16)
         × (vec_capacity s.needed ≡ length s.needed.items) × (vec_capacity s.defined ≡ length s.defined.items) };
-}
-
-// The number of places for the version indexes that the symbols have: one more than the greatest.
-fn count_places<E: EndianParse>(indexes: VersionIndexTable<'_, E>) -> usize
-    ensures count { result ≡ place_count (table_items version_index_reads (table_view indexes.entry)) }
-    ensures bound { result ≤ 2 ^ 16 }
-{
-    let mut count = 0;
-    for index in indexes {
-        count = count.max(index.index() as usize + 1);
-    }
-    count
 }
 
 // This number of empty places, or none if there is nothing to look up, and memory for no more places.
@@ -92,7 +79,7 @@ impl<'a, 'data, E: EndianParse, A: Allocator + Copy> IndexedVersions<'a, 'data, 
             IsNone (versions_view versions.now).definitions → IsOk result }
         ensures no_indexes { table_items version_index_reads (versions_view versions.now).indexes ≡ [] → IsOk result }
     {
-        let count = count_places(versions.indexes);
+        let count = versions.place_count();
         let mut needed = empty_places(alloc, &versions.needs, count)?;
         let mut defined = empty_places(alloc, &versions.definitions, count)?;
         place_needs(&mut needed, &versions.needs);

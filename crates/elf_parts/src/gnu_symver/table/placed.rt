@@ -9,7 +9,7 @@ ghost use Rattle.elf_parts.specs.gnu_symver.Table.{needed_of, needed_version, ne
 ghost use Rattle.elf_parts.specs.gnu_symver.Table.{requirement, versions_view};
 ghost use Rattle.elf_parts.specs.gnu_symver.Table.{GivesRequirement, HasFewNames};
 
-use super::walked::{STRETCHES, Stretch, put_versions};
+use super::walked::hold_needs;
 use super::{
     Needed, SymbolDefinition, SymbolRequirement, SymbolVersionTable, SymbolVersions,
     VerDefIterator, VerNeedIterator, VersionIndex, first_needed, needed_entry, next_defined,
@@ -22,10 +22,8 @@ use std::marker::Model;
 
 /// The versions of the symbols of a file. Two slices that the caller provides hold the first need and the first
 /// definition of each version index for which they have a place. Such a version is found without a walk, any other one
-/// as `SymbolVersionTable` finds it. Version indexes have 15 bits, so with 32,768 places in each slice no look-up
-/// walks. Filling the slices costs the number of needs, of their auxiliary entries and of definitions. An entry that
-/// several needs share counts once, and each need takes some two thousand steps at most. Only in a section of some ten
-/// mebibytes may a need cost more. For a section of more than 16 KiB the call takes 24 KiB of the stack. Allocates no
+/// as `SymbolVersionTable` finds it. With `SymbolVersionTable::place_count` places in each slice no look-up walks; they
+/// are at most 32,768. Filling the slices costs the number of definitions, and what `hold_needs` costs. Allocates no
 /// memory.
 #[derive(Debug, Drop)]
 pub struct PlacedVersions<'a, 'data, E: EndianParse> {
@@ -46,9 +44,6 @@ impl<'a, 'data, E: EndianParse> Model for PlacedVersions<'a, 'data, E> {
         × HoldDefinitions s.defined.now (versions_view s.versions.now).definitions };
 }
 
-// In a section of up to this number of bytes, walks cost little even if all needs share all auxiliary entries.
-const FEW_BYTES: usize = 16_384;
-
 // Puts a value into the place of an index, if there is one and it is empty.
 pub(super) fn put<T: Copy>(slots: &mut [Option<T>], index: u16, value: T)
     ensures values { (k : ℕ) → k < length slots.new → slot slots.new k
@@ -61,44 +56,13 @@ pub(super) fn put<T: Copy>(slots: &mut [Option<T>], index: u16, value: T)
     }
 }
 
-// Puts the needed versions in, in order. The earlier content of `stretches` is ignored.
-fn put_needs<E: EndianParse>(
-    slots: &mut [Option<Needed>],
-    stretches: &mut [Option<Stretch>],
-    needs: VerNeedIterator<'_, E>,
-)
-    ensures { (k : ℕ) → k < length slots.new → slot slots.new k
-        ≡ option_or (slot slots.old k) (option_map needed_of (needed_version k (ver_needs_left needs.entry))) }
-{
-    stretches.fill(None);
-    let mut left = needs;
-    while let Some((need, versions)) = left.next_links() {
-        put_versions(slots, stretches, need.vn_file, versions);
-    }
-}
-
-// Not inlined, so that only its callers take the stack for the stretches.
-#[inline(never)]
-fn put_needs_in_stretches<E: EndianParse>(
-    slots: &mut [Option<Needed>],
-    needs: VerNeedIterator<'_, E>,
-)
-    ensures { (k : ℕ) → k < length slots.new → slot slots.new k
-        ≡ option_or (slot slots.old k) (option_map needed_of (needed_version k (ver_needs_left needs.entry))) }
-{
-    put_needs(slots, &mut [None; STRETCHES], needs);
-}
-
 // Finds the first needed version of each index that has a place.
+#[tactic(auto, using(crate::proofs::Placed::held_in_slot))]
 fn place_needed<E: EndianParse>(slots: &mut [Option<Needed>], needs: VerNeedIterator<'_, E>)
     ensures { HoldNeeded slots.new (ver_needs_left needs.entry) }
 {
     slots.fill(None);
-    if needs.data_len() <= FEW_BYTES {
-        put_needs(slots, &mut [], needs);
-    } else {
-        put_needs_in_stretches(slots, needs);
-    }
+    hold_needs(slots, needs);
 }
 
 // Finds the first definition of each index that has a place, and stores an iterator that yields it next.

@@ -8,5 +8,5 @@ pub returns-clause-values : goal.returns-clause-values
 returns-clause-values g c = λ k below.
     let left = c.loop-left.left in
     let none : left.count ≡ 0 = omega arith in
-    sym (nothing_left c.loop-left.slots c.args.file (links_view left) k left.count left.offset none)
+    sym (nothing_left g.P.NeedPlace.held c.loop-left.places c.args.file (links_view left) k left.count left.offset none)
     ∙ c.loop-left.invariant.2 k below
