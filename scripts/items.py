@@ -23,8 +23,7 @@ def crates(top):
 
 def libraries(top):
     """The crates whose items others use. The other crates are programs and tests."""
-    tests = ("elf_abi_tests", "elf_test_parts", "elf_tests", "elfshow_tests")
-    return [crate for crate in crates(top) if crate not in tests
+    return [crate for crate in crates(top) if crate != "elf_tests"
             and os.path.isfile(os.path.join(top, "crates", crate, "src", "lib.rt"))]
 
 

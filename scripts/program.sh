@@ -106,15 +106,16 @@ build_unproved() {
     clean_up_build
 }
 
-# launch NAME CRATE BEFORE AFTER WORD..: runs the proved program, which ./prove builds, if it was made of the sources as
+# launch NAME CRATE SECONDS BEFORE AFTER WORD..: runs the proved program, which ./prove builds, if it was made of the sources as
 # they are now. Otherwise runs a program of these sources that was built without proof, and says so in one line on
 # standard error. With the words BEFORE, a file and AFTER the program reads that file.
 launch() {
     name=$1
     set_program "$2"
-    before=$3
-    after=$4
-    shift 4
+    seconds=$3
+    before=$4
+    after=$5
+    shift 5
     if is_current "$proved"; then
         exec "$proved" "$@"
     fi
@@ -122,7 +123,9 @@ launch() {
         echo "$name: this program is not proved; to prove it: $top/prove" >&2
     else
         need_build
-        echo "$name: building the program without proof, in about half a minute; to prove it: $top/prove" >&2
+        crates=$(crates_of "$crate" | wc -l)
+        echo "$name: building the program without proof, once: rt compiles its $crates crates, in about $seconds seconds" \
+            "on an idle machine; to prove it: $top/prove" >&2
         build_unproved "$before" "$after"
     fi
     exec "$unproved" "$@"

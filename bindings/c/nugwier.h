@@ -344,7 +344,7 @@ struct nugwier_needed {
 struct nugwier_status nugwier_dynamic_names(const struct nugwier_file *file, struct nugwier_dynamic_names *names);
 
 /* The name of the file for those that need it (DT_SONAME), and where libraries are looked for (DT_RUNPATH, or without
- * it DT_RPATH): each by the first entry with its tag. */
+ * it DT_RPATH): each by the last entry with its tag, which counts for the dynamic linker. */
 struct nugwier_status nugwier_soname(const struct nugwier_dynamic_names *names, struct nugwier_found_bytes *soname);
 struct nugwier_status nugwier_runpath(const struct nugwier_dynamic_names *names, struct nugwier_found_bytes *runpath);
 struct nugwier_status nugwier_rpath(const struct nugwier_dynamic_names *names, struct nugwier_found_bytes *rpath);

@@ -10,11 +10,10 @@ use Rattle.elf_records.specs.Record.{◌>>=◌}
 use Rattle.elf_records.specs.StringTable.{strings_view}
 use Rattle.elf_parts.specs.SysvFind.{SysvTable, sysv_section, sysv_view}
 use Rattle.elf_records.specs.Table.{Table, table_view}
-use Rattle.elf_records.specs.declared.parse.ParseError.{ParseError}
 use Rattle.elf_records.specs.declared.section.SectionHeader.{SectionHeader}
 use Rattle.elf.specs.Answers.{section_dynamic, segment_dynamic, symbols_of}
 use Rattle.elf.specs.Headers.{first_segment_of, if_found}
-use Rattle.elf.specs.ObjectFile.{ObjectFile, section_part}
+use Rattle.elf.specs.ObjectFile.{ErrorOf, Extent, FileOf, err_map, parsed, section_part}
 use Rattle.elf.specs.declared.elf_bytes.common.CommonElfData.{CommonElfData}
 
 -- what a section holds of it: symbols with their strings, those that are bound at run time, dynamic entries, a hash
@@ -28,14 +27,16 @@ pub data CommonPart : Type 0 where
   Nothing : CommonPart
 
 -- the hash table of a section
-abbrev pub sysv_hash_table_of : ObjectFile → SectionHeader → Result SysvTable ParseError
-sysv_hash_table_of file s = section_part file s >>= sysv_section file.little file.class
+abbrev pub sysv_hash_table_of : {x : Extent} → FileOf x → SectionHeader → Result SysvTable (ErrorOf x)
+sysv_hash_table_of file s =
+    section_part file s >>= λ bytes. err_map (parsed file) (sysv_section file.little file.class bytes)
 
-abbrev pub gnu_hash_table_of : ObjectFile → SectionHeader → Result GnuTable ParseError
-gnu_hash_table_of file s = section_part file s >>= gnu_section file.little file.class
+abbrev pub gnu_hash_table_of : {x : Extent} → FileOf x → SectionHeader → Result GnuTable (ErrorOf x)
+gnu_hash_table_of file s =
+    section_part file s >>= λ bytes. err_map (parsed file) (gnu_section file.little file.class bytes)
 
 -- by the type of the section: SHT_SYMTAB, SHT_DYNSYM, SHT_DYNAMIC, SHT_HASH or SHT_GNU_HASH
-abbrev pub common_part : ObjectFile → SectionHeader → Result CommonPart ParseError
+abbrev pub common_part : {x : Extent} → FileOf x → SectionHeader → Result CommonPart (ErrorOf x)
 common_part file s =
     if s.sh_type == sht_symtab then ok_map Symbols (symbols_of file s)
     else if s.sh_type == sht_dynsym then ok_map DynamicSymbols (symbols_of file s)
@@ -45,7 +46,7 @@ common_part file s =
     else Ok Nothing
 
 -- what is in all of the results, or the first error
-abbrev pub all_ok : {A : Type 0} → List (Result A ParseError) → Result (List A) ParseError
+abbrev pub all_ok : {A E : Type 0} → List (Result A E) → Result (List A) E
 all_ok [] = Ok []
 all_ok (r ∷ rs) = r >>= λ x. ok_map (λ xs. x ∷ xs) (all_ok rs)
 
@@ -99,7 +100,7 @@ last_of_each parts = record {
 }
 
 -- the dynamic entries of the sections, or if there are none those of the first segment of type PT_DYNAMIC
-abbrev pub dynamic_or_segment : ObjectFile → Option Table → Result (Option Table) ParseError
+abbrev pub dynamic_or_segment : {x : Extent} → FileOf x → Option Table → Result (Option Table) (ErrorOf x)
 dynamic_or_segment file (Some entries) = Ok (Some entries)
 dynamic_or_segment file None = if_found (segment_dynamic file) (first_segment_of pt_dynamic file.segments)
 
@@ -108,11 +109,11 @@ abbrev pub with_dynamic : CommonData → Option Table → CommonData
 with_dynamic found entries = record found { dynamic = entries }
 
 -- what the sections hold
-unfoldable pub common_of_sections : ObjectFile → Result CommonData ParseError
+unfoldable pub common_of_sections : {x : Extent} → FileOf x → Result CommonData (ErrorOf x)
 common_of_sections file = ok_map last_of_each (all_ok (map (common_part file) file.sections))
 
 -- the last of each kind among the parts of all sections, or the first error; then the dynamic entries of a segment
-abbrev pub find_common_data : ObjectFile → Result CommonData ParseError
+abbrev pub find_common_data : {x : Extent} → FileOf x → Result CommonData (ErrorOf x)
 find_common_data file =
     common_of_sections file >>= λ found. ok_map (with_dynamic found) (dynamic_or_segment file found.dynamic)
 

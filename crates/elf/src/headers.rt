@@ -119,9 +119,9 @@ pub trait Headers {
     }
 }
 
-// Whether a section has this name.
+/// Returns whether a section has this name, a string of `names`.
 #[inline(always)]
-pub(crate) fn has_name(names: &TerminatedStrings<'_>, name: &[u8], shdr: &SectionHeader) -> bool
+pub fn has_name(names: &TerminatedStrings<'_>, name: &[u8], shdr: &SectionHeader) -> bool
     ensures { result ≡ has_name names.now name.now shdr.now }
 {
     match names.is_quickly(shdr.sh_name as usize, name) {

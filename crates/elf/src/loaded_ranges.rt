@@ -18,6 +18,7 @@ use elf_parts::segment::ProgramHeader;
 use elf_parts::string_table::TerminatedStrings;
 
 /// A range of a file with its bytes. The first of them is at `start` in the file.
+#[repr(C)]
 #[derive(Debug, Clone, Copy)]
 pub struct LoadedRange<'data> {
     pub start: u64,
@@ -25,16 +26,16 @@ pub struct LoadedRange<'data> {
 }
 
 impl<'data> LoadedRange<'data> {
-    // Whether the bytes from `start` to `end` lie within this range.
-    fn covers(&self, start: u64, end: u64) -> bool
+    /// Returns whether the bytes from `start` to `end` lie within this range.
+    pub fn covers(&self, start: u64, end: u64) -> bool
         requires { start ≤ end }
         ensures { result ≡ covers start end (part_of self.now) }
     {
         self.start <= start && end - self.start <= self.bytes.len() as u64
     }
 
-    // The bytes from `start` to `end`.
-    fn part(&self, start: u64, end: u64) -> &'data [u8]
+    /// Returns the bytes from `start` to `end`.
+    pub fn part(&self, start: u64, end: u64) -> &'data [u8]
         requires order { start ≤ end }
         requires within { IsTrue (covers start end (part_of self.now)) }
         ensures { result.now ≡ take (end - start) (drop (start - self.now.start) self.now.bytes.now) }
@@ -45,8 +46,8 @@ impl<'data> LoadedRange<'data> {
     }
 }
 
-// The last of the ranges within which the bytes from `start` to `end` lie.
-fn last_covering<'a, 'data>(
+/// Returns the last of the ranges within which the bytes from `start` to `end` lie.
+pub fn last_covering<'a, 'data>(
     ranges: &'a [LoadedRange<'data>],
     start: u64,
     end: u64,

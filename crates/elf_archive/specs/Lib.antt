@@ -6,5 +6,3 @@ pub mod Fields
 pub mod Archive
 -- what implementations cite
 pub mod inner
--- archives for theorems
-pub mod KnownArchives

@@ -7,4 +7,3 @@ pub mod archive;
 mod entry;
 mod fields;
 pub mod laws;
-pub mod worked;

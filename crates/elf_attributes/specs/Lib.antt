@@ -4,5 +4,3 @@
 pub mod Leb128
 -- the parts of a section of build attributes
 pub mod Attributes
--- build attributes for theorems
-pub mod KnownAttributes

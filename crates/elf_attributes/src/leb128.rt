@@ -1,10 +1,11 @@
 //! Numbers and texts of any length.
-ghost use Rattle.std.specs.Prelude.{◌≡◌, ◌==◌, nat_lt};
+ghost use Rattle.std.specs.Prelude.{◌≡◌, nat_lt};
 ghost use Rattle.std.specs.List.{position};
 ghost use Rattle.elf_records.specs.Number.{ok_map};
 ghost use Rattle.elf_attributes.specs.Leb128.{after_list, first_number, first_text, item_view, leb_number, with_group};
 
 use crate::attributes::AttributeError;
+use elf_records::string_table::first_nul;
 
 /// Returns the number that begins bytes, in LEB128 without a sign, and the bytes after it.
 pub fn first_number(bytes: &[u8]) -> Result<(u64, &[u8]), AttributeError>
@@ -54,12 +55,6 @@ pub fn first_text(bytes: &[u8]) -> Result<(&[u8], &[u8]), AttributeError>
         Some(end) => Ok((&bytes[..end], &bytes[end + 1..])),
         None => Err(AttributeError::EndlessText),
     }
-}
-
-fn first_nul(bytes: &[u8]) -> Option<usize>
-    ensures { result ≡ position (λ byte. byte == 0) bytes.now }
-{
-    bytes.iter().position(|byte| *byte == 0)
 }
 
 /// Returns the bytes after the numbers that begin bytes, up to a number 0, which ends them.

@@ -4,4 +4,3 @@
 
 pub mod attributes;
 pub mod leb128;
-pub mod worked;

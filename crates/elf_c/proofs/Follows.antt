@@ -17,7 +17,7 @@ use Rattle.elf_records.specs.declared.section.SectionHeader.{SectionHeader}
 use Rattle.elf_parts.specs.GnuFind.{gnu_section}
 use Rattle.elf_parts.specs.SysvFind.{sysv_section}
 use Rattle.elf_reading.specs.Cache.{IsOf, is_cached, range_of}
-use Rattle.elf.proofs.Partly.{follows_bind, follows_found, follows_if, follows_map, linked_follows, nothing_missing, part_follows, section_follows}
+use Rattle.elf.proofs.Partly.{follows_bind, follows_found, follows_if, follows_map, follows_parsed, linked_follows, nothing_missing, part_follows, section_follows}
 use Rattle.elf.specs.Answers.{dynamic, first_symbols, section_dynamic, segment_data, segment_dynamic, symbols_in, symbols_of, with_linked}
 use Rattle.elf.specs.Common.{CommonData, CommonPart, DynamicEntries, DynamicSymbols, GnuHash, Symbols, SysvHash}
 use Rattle.elf.specs.Common.{all_ok, common_of_sections, common_part, dynamic_or_segment, find_common_data, gnu_hash_table_of, last_of_each, sysv_hash_table_of, with_dynamic}
@@ -37,14 +37,14 @@ use Rattle.elf_dynamic.specs.dynamic_view.Entries.{entries_in}
 use Rattle.elf_linking.specs.declared.needed.NamesError.{NamesError}
 use Rattle.elf_tools.proofs.BuildIds.{id_follows}
 use Rattle.elf_c.proofs.Held.{loaded_follows}
-use Rattle.elf_c.specs.Common.{all_loaded, common_loaded, dynamic_loaded, gnu_loaded, part_loaded, sections_loaded, sysv_loaded}
 use Rattle.elf_c.specs.Data.{notes_with}
 use Rattle.elf_c.specs.File.{IsWhole, file_of_c, file_over}
 use Rattle.elf_c.specs.Follows.{AreFollowed, AreNamesAnswered, IsAnswered}
-use Rattle.elf_c.specs.Loaded.{is_missing, loaded_of_c, part_of_c, parts_of_c, ranges_of_c}
+use Rattle.elf.specs.LoadedRanges.{part_of}
+use Rattle.elf_c.specs.Loaded.{is_missing, loaded_of_c, parts_of_c, ranges_of_c}
 use Rattle.elf_c.specs.Status.{names_status, read_status, status_of}
 use Rattle.elf_c.specs.Symbols.{symbols_type}
-use Rattle.elf_c.specs.declared.loaded.NugwierRange.{NugwierRange}
+use Rattle.elf.specs.declared.loaded_ranges.LoadedRange.{LoadedRange}
 use Rattle.elf_c.specs.declared.file.NugwierFile.{NugwierFile}
 
 same_status : {A : Type 0} (r : Result A ParseError) → read_status (err_map Parse r) ≡ status_of r
@@ -102,39 +102,39 @@ module _ (whole : ObjectFile) (range : Ranges) (away : ℕ × ℕ → Bool) (eac
       (follows_if away (s.sh_entsize == size_by dyn_layout whole.class) _ _ _ _ (inl refl) (inl refl)) (λ size.
       follows_map away (table_of whole) (content whole s) (content part s) (content_follows s))
 
-  sysv_follows : (s : SectionHeader) → Follows away (sysv_hash_table_of whole s) (sysv_loaded part s)
-  sysv_follows s = follows_bind away (section_part whole s) (section_part part s) (sysv_section whole.little whole.class) (λ bytes. err_map Parse (sysv_section whole.little whole.class bytes)) (bytes_follow s) (λ bytes. inl refl)
+  sysv_follows : (s : SectionHeader) → Follows away (sysv_hash_table_of whole s) (sysv_hash_table_of part s)
+  sysv_follows s = follows_bind away (section_part whole s) (section_part part s) _ _ (bytes_follow s) (λ bytes. follows_parsed away (sysv_section whole.little whole.class bytes))
 
-  gnu_follows : (s : SectionHeader) → Follows away (gnu_hash_table_of whole s) (gnu_loaded part s)
-  gnu_follows s = follows_bind away (section_part whole s) (section_part part s) (gnu_section whole.little whole.class) (λ bytes. err_map Parse (gnu_section whole.little whole.class bytes)) (bytes_follow s) (λ bytes. inl refl)
+  gnu_follows : (s : SectionHeader) → Follows away (gnu_hash_table_of whole s) (gnu_hash_table_of part s)
+  gnu_follows s = follows_bind away (section_part whole s) (section_part part s) _ _ (bytes_follow s) (λ bytes. follows_parsed away (gnu_section whole.little whole.class bytes))
 
-  kind_follows : (s : SectionHeader) → Follows away (common_part whole s) (part_loaded part s)
+  kind_follows : (s : SectionHeader) → Follows away (common_part whole s) (common_part part s)
   kind_follows s =
       follows_if away (s.sh_type == sht_symtab) _ _ _ _ (follows_map away Symbols (symbols_of whole s) (symbols_of part s) (symbols_follow s))
       (follows_if away (s.sh_type == sht_dynsym) _ _ _ _ (follows_map away DynamicSymbols (symbols_of whole s) (symbols_of part s) (symbols_follow s))
       (follows_if away (s.sh_type == sht_dynamic) _ _ _ _ (follows_map away DynamicEntries (section_dynamic whole s) (section_dynamic part s) (entries_follow s))
-      (follows_if away (s.sh_type == sht_hash) _ _ _ _ (follows_map away SysvHash (sysv_hash_table_of whole s) (sysv_loaded part s) (sysv_follows s))
-      (follows_if away (s.sh_type == sht_gnu_hash) _ _ _ _ (follows_map away GnuHash (gnu_hash_table_of whole s) (gnu_loaded part s) (gnu_follows s)) (inl refl)))))
+      (follows_if away (s.sh_type == sht_hash) _ _ _ _ (follows_map away SysvHash (sysv_hash_table_of whole s) (sysv_hash_table_of part s) (sysv_follows s))
+      (follows_if away (s.sh_type == sht_gnu_hash) _ _ _ _ (follows_map away GnuHash (gnu_hash_table_of whole s) (gnu_hash_table_of part s) (gnu_follows s)) (inl refl)))))
 
-  all_follow : (sections : List SectionHeader) → Follows away (all_ok (map (common_part whole) sections)) (all_loaded (map (part_loaded part) sections))
+  all_follow : (sections : List SectionHeader) → Follows away (all_ok (map (common_part whole) sections)) (all_ok (map (common_part part) sections))
   all_follow [] = inl refl
   all_follow (s ∷ rest) =
-      follows_bind away (common_part whole s) (part_loaded part s) _ _ (kind_follows s) (λ (x : CommonPart).
-      follows_map away (λ (xs : List CommonPart). x ∷ xs) (all_ok (map (common_part whole) rest)) (all_loaded (map (part_loaded part) rest)) (all_follow rest))
+      follows_bind away (common_part whole s) (common_part part s) _ _ (kind_follows s) (λ (x : CommonPart).
+      follows_map away (λ (xs : List CommonPart). x ∷ xs) (all_ok (map (common_part whole) rest)) (all_ok (map (common_part part) rest)) (all_follow rest))
 
-  sections_follow : Follows away (common_of_sections whole) (sections_loaded part)
-  unfolding common_of_sections sections_loaded
-  sections_follow = follows_map away last_of_each (all_ok (map (common_part whole) whole.sections)) (all_loaded (map (part_loaded part) whole.sections)) (all_follow whole.sections)
+  sections_follow : Follows away (common_of_sections whole) (common_of_sections part)
+  unfolding common_of_sections
+  sections_follow = follows_map away last_of_each (all_ok (map (common_part whole) whole.sections)) (all_ok (map (common_part part) whole.sections)) (all_follow whole.sections)
 
-  dynamic_follows : (found : Option Table) → Follows away (dynamic_or_segment whole found) (dynamic_loaded part found)
+  dynamic_follows : (found : Option Table) → Follows away (dynamic_or_segment whole found) (dynamic_or_segment part found)
   dynamic_follows (Some entries) = inl refl
   dynamic_follows None = follows_found away (segment_dynamic whole) (segment_dynamic part) (first_segment_of 2 whole.segments) (λ p.
       follows_map away (table_of whole) (segment_data whole p) (segment_data part p) (each p.p_offset p.p_filesz))
 
-  common_follows : Follows away (find_common_data whole) (common_loaded part)
+  common_follows : Follows away (find_common_data whole) (find_common_data part)
   common_follows =
-      follows_bind away (common_of_sections whole) (sections_loaded part) _ _ sections_follow (λ (found : CommonData).
-      follows_map away (with_dynamic found) (dynamic_or_segment whole found.dynamic) (dynamic_loaded part found.dynamic) (dynamic_follows found.dynamic))
+      follows_bind away (common_of_sections whole) (common_of_sections part) _ _ sections_follow (λ (found : CommonData).
+      follows_map away (with_dynamic found) (dynamic_or_segment whole found.dynamic) (dynamic_or_segment part found.dynamic) (dynamic_follows found.dynamic))
 
   -- ---- the calls
 
@@ -182,8 +182,8 @@ front_is bytes = record { within = omega arith; same = sym (take-length bytes) }
 
 sound_of : (f : NugwierFile) → IsWhole f → All (IsOf f.bytes.now) (parts_of_c f)
 sound_of f whole =
-    let P : List NugwierRange → Type 0 = λ ranges. All (IsOf f.bytes.now) (map part_of_c ranges) in
-    All-cons (IsOf f.bytes.now) (record { start = 0; bytes = f.bytes.now }) (map part_of_c f.ranges.now) (front_is f.bytes.now)
+    let P : List LoadedRange → Type 0 = λ ranges. All (IsOf f.bytes.now) (map part_of ranges) in
+    All-cons (IsOf f.bytes.now) (record { start = 0; bytes = f.bytes.now }) (map part_of f.ranges.now) (front_is f.bytes.now)
     (subst P (sym whole.1) (λ k d less. absurd (omega (arith, less))))
 
 -- no range is missing
@@ -196,7 +196,7 @@ held size start end rest = by_test (nat_le end size) refl
 
 none_missing : (f : NugwierFile) → IsWhole f → (range : ℕ × ℕ) → is_missing f.size (parts_of_c f) range ≡ false
 none_missing f whole range =
-    rw whole.0 (held (length f.bytes.now) range.0 range.1 (is_cached (map range_of (map part_of_c f.ranges.now)) range.0 range.1))
+    rw whole.0 (held (length f.bytes.now) range.0 range.1 (is_cached (map range_of (map part_of f.ranges.now)) range.0 range.1))
 
 each_held : (f : NugwierFile) → IsWhole f → ArePartOf (file_of_c f) (λ _. false) (ranges_of_c f)
 each_held f whole start count = cases (loaded_follows f.bytes.now f.size (parts_of_c f) whole.0 (sound_of f whole) start count)

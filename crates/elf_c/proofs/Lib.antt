@@ -9,7 +9,6 @@ pub mod HashTables
 pub mod Writing
 pub mod TypeNames
 pub mod Checked
-pub mod CommonPass
 pub mod Chosen
 pub mod Held
 pub mod Moved

@@ -29,12 +29,13 @@ use Rattle.elf.specs.declared.read_error.ReadError.TheVariants.{Parse, NotLoaded
 use Rattle.elf_c.proofs.Held.{loaded_follows}
 use Rattle.elf_c.proofs.Moved.{is_wide, part_at, record_moved}
 use Rattle.elf_c.specs.File.{MissingAreEmpty, file_view, opened_in}
-use Rattle.elf_c.specs.Loaded.{is_missing, part_of_c, parts_in, ranges_in}
+use Rattle.elf.specs.LoadedRanges.{part_of}
+use Rattle.elf_c.specs.Loaded.{is_missing, parts_in, ranges_in}
 use Rattle.elf_c.specs.Opening.{IsOpened, IsOpenedAs}
 use Rattle.elf_c.specs.Status.{done, unread}
 use Rattle.elf_c.specs.inner.Steps.{count_by, first_by, header_by, moved, opened_by, records_by, table_by}
 use Rattle.elf_c.specs.declared.file.NugwierFile.{NugwierFile}
-use Rattle.elf_c.specs.declared.loaded.NugwierRange.{NugwierRange}
+use Rattle.elf.specs.declared.loaded_ranges.LoadedRange.{LoadedRange}
 use Rattle.elf_c.specs.declared.status.NugwierStatus.{NugwierStatus}
 
 twice : {A E X Y : Type 0} (to : E → X) (on : X → Y) (r : Result A E) → err_map on (err_map to r) ≡ err_map (λ e. on (to e)) r
@@ -125,7 +126,7 @@ refused_as : {A : Type 0} (r : Result A ParseError) (e : ReadError) → err_map 
 refused_as (Ok y) e is = cc is
 refused_as (Err f) e is = (f, refl, cc is)
 
-module _ (bytes : List ℕ) (size : ℕ) (ranges : List NugwierRange) (whole : size ≡ length bytes) (short : size < 2 ^ 64) (sound : All (IsOf bytes) (map part_of_c ranges)) where
+module _ (bytes : List ℕ) (size : ℕ) (ranges : List LoadedRange) (whole : size ≡ length bytes) (short : size < 2 ^ 64) (sound : All (IsOf bytes) (map part_of ranges)) where
   abbrev parts_of : Ranges
   parts_of = ranges_in size (parts_in [] ranges)
 
@@ -133,7 +134,7 @@ module _ (bytes : List ℕ) (size : ℕ) (ranges : List NugwierRange) (whole : s
   follows =
       let P : ℕ → Type 0 = λ n. Follows (is_missing size (parts_in [] ranges)) (opened_in bytes) (opened_by n parts_of bytes) in
       subst P (sym whole) (opened_follows bytes (omega (arith, whole, short)) (is_missing size (parts_in [] ranges)) parts_of
-      (loaded_follows bytes size (parts_in [] ranges) whole (All-cons (IsOf bytes) (record { start = 0; bytes = [] }) (map part_of_c ranges) front sound)))
+      (loaded_follows bytes size (parts_in [] ranges) whole (All-cons (IsOf bytes) (record { start = 0; bytes = [] }) (map part_of ranges) front sound)))
     where
       front : IsOf bytes (record { start = 0; bytes = [] })
       front = record { within = omega arith; same = refl }

@@ -3,7 +3,7 @@ use Rattle.std.specs.Prelude.{◌≡◌, ℕ, not, false, if◌then◌else◌, �
 use Rattle.std.specs.Prelude.{Option, Some, None, Result, Ok}
 use Rattle.std.specs.List.{take_while}
 use Rattle.elf_abi.specs.Values.{dt_null}
-use Rattle.elf_records.specs.Dynamic.{dyn_reads, has_tag}
+use Rattle.elf_records.specs.Dynamic.{d_un_view, dyn_reads, has_tag}
 use Rattle.elf_records.specs.Number.{ok_map}
 use Rattle.elf_records.specs.Record.{◌>>=◌}
 use Rattle.elf_records.specs.Table.{Table, table_items}
@@ -12,7 +12,7 @@ use Rattle.elf.specs.Answers.{dynamic}
 use Rattle.elf.specs.Headers.{if_found}
 use Rattle.elf.specs.ObjectFile.{Extent, FileOf, err_map}
 use Rattle.elf_dynamic.specs.dynamic_view.Entries.{entries_in}
-use Rattle.elf_linking.specs.Needed.{first_name, is_library, name_of, read_error, strings_by}
+use Rattle.elf_linking.specs.Needed.{is_library, name_of, name_with as name_in, read_error, strings_by}
 use Rattle.elf_linking.specs.declared.needed.NamesError.{NamesError}
 use Rattle.elf_c.specs.Tables.{table_of_c}
 use Rattle.elf_c.specs.declared.dynamic_names.NugwierDynamicNames.{NugwierDynamicNames}
@@ -34,9 +34,9 @@ dynamic_names_view n = if n.found then Some (names_pair n) else None
 abbrev pub no_dynamic_names_in : NugwierDynamicNames → NugwierDynamicNames
 no_dynamic_names_in n = record n { found = false }
 
--- the name that the first entry with a tag gives, if there is one
+-- the name that a tag gives, if an entry has it
 abbrev pub name_with : ℤ → NugwierDynamicNames → Result (Option (List ℕ)) NamesError
-name_with tag n = first_name n.strings.now tag (entries_in (table_of_c n.entries))
+name_with tag n = name_in n.strings.now tag (entries_in (table_of_c n.entries))
 
 -- ---- the libraries that are loaded with the file
 
@@ -47,7 +47,7 @@ libraries_left entries n =
 
 -- the tag of an entry and the library that it names
 abbrev pub needed_of : List ℕ → Dyn → Result (ℤ × List ℕ) NamesError
-needed_of strings entry = ok_map (λ name. (entry.d_tag, name)) (name_of strings entry)
+needed_of strings entry = ok_map (λ name. (entry.d_tag, name)) (name_of strings (d_un_view entry))
 
 -- those of the first entry, if there is one
 abbrev pub first_needed : List ℕ → List Dyn → Result (Option (ℤ × List ℕ)) NamesError

@@ -101,23 +101,18 @@ section_fault s (section.Dynamic fault) = dynamic_fault s fault
 
 -- ---- of the versions
 
-abbrev pub needs_fault : ChainFault → NugwierFault
-needs_fault (chain.Short found) = of_versions 603 found
-needs_fault chain.NotLast = of_versions 604 0
-needs_fault (chain.At index) = of_versions 605 index
-
-abbrev pub definitions_fault : ChainFault → NugwierFault
-definitions_fault (chain.Short found) = of_versions 608 found
-definitions_fault chain.NotLast = of_versions 609 0
-definitions_fault (chain.At index) = of_versions 610 index
+abbrev pub chain_fault : ℕ → ℕ → ℕ → ChainFault → NugwierFault
+chain_fault short not_last at (chain.Short found) = of_versions short found
+chain_fault short not_last at chain.NotLast = of_versions not_last 0
+chain_fault short not_last at (chain.At index) = of_versions at index
 
 abbrev pub versions_fault : VersionsFault → NugwierFault
 versions_fault versions.NeedsUnreadable = of_versions 601 0
 versions_fault versions.NeedsTooLong = of_versions 602 0
-versions_fault (versions.FaultyNeeds fault) = needs_fault fault
+versions_fault (versions.FaultyNeeds fault) = chain_fault 603 604 605 fault
 versions_fault versions.DefinitionsUnreadable = of_versions 606 0
 versions_fault versions.DefinitionsTooLong = of_versions 607 0
-versions_fault (versions.FaultyDefinitions fault) = definitions_fault fault
+versions_fault (versions.FaultyDefinitions fault) = chain_fault 608 609 610 fault
 versions_fault versions.PartOfIndex = of_versions 611 0
 versions_fault versions.IndexesUnreadable = of_versions 612 0
 versions_fault versions.NoDynamicSymbols = of_versions 613 0

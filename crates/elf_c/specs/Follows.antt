@@ -13,7 +13,6 @@ use Rattle.elf.specs.Parts.{Follows}
 use Rattle.elf_linking.specs.Needed.{NamesFollow}
 use Rattle.elf_linking.specs.declared.needed.NamesError.{NamesError}
 use Rattle.elf_tools.specs.BuildId.{build_id}
-use Rattle.elf_c.specs.Common.{common_loaded}
 use Rattle.elf_c.specs.Data.{section_notes, section_records, segment_notes}
 use Rattle.elf_c.specs.DynamicNames.{dynamic_names}
 use Rattle.elf.specs.declared.read_error.ReadError.{ReadError}
@@ -56,7 +55,7 @@ pub record AreFollowed (is_missing : ℕ × ℕ → Bool) (whole : ObjectFile) (
   pub by_name :
       (name : List ℕ) → IsAnswered is_missing (section_header_by_name whole name) (section_header_by_name part name)
   pub versions : IsAnswered is_missing (symbol_version_table whole) (symbol_version_table part)
-  pub common : IsAnswered is_missing (find_common_data whole) (common_loaded part)
+  pub common : IsAnswered is_missing (find_common_data whole) (find_common_data part)
   pub linked : AreNamesAnswered is_missing (dynamic_names whole) (dynamic_names part)
   pub id : IsAnswered is_missing (build_id whole) (build_id part)
   pub bytes : IsAnswered is_missing (whole.range 0 whole.size) (part.range 0 part.size)

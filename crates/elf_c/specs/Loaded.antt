@@ -3,20 +3,17 @@ use Rattle.std.specs.Prelude.{ℕ, ◌+◌, ◌^◌, ◌==◌, ◌&&◌, Bool, n
 use Rattle.std.specs.Prelude.{Ok, Err}
 use Rattle.elf_records.specs.declared.parse.ParseError.TheVariants.{IntegerOverflow}
 use Rattle.elf_reading.specs.Cache.{Piece, is_cached, range_of}
+use Rattle.elf.specs.LoadedRanges.{part_of}
 use Rattle.elf.specs.ObjectFile.{FileOf, ObjectFile, Partial}
 use Rattle.elf.specs.Parts.{Ranges, loaded, loaded_range}
+use Rattle.elf.specs.declared.loaded_ranges.LoadedRange.{LoadedRange}
 use Rattle.elf.specs.declared.read_error.ReadError.TheVariants.{Parse}
 use Rattle.elf_c.specs.File.{file_of_c}
 use Rattle.elf_c.specs.declared.file.NugwierFile.{NugwierFile}
-use Rattle.elf_c.specs.declared.loaded.NugwierRange.{NugwierRange}
-
--- a range with its bytes
-abbrev pub part_of_c : NugwierRange → Piece
-part_of_c range = record { start = range.start; bytes = range.bytes.now }
 
 -- what is loaded: these bytes at the start, and these ranges
-abbrev pub parts_in : List ℕ → List NugwierRange → List Piece
-parts_in bytes ranges = record { start = 0; bytes = bytes } ∷ map part_of_c ranges
+abbrev pub parts_in : List ℕ → List LoadedRange → List Piece
+parts_in bytes ranges = record { start = 0; bytes = bytes } ∷ map part_of ranges
 
 -- the bytes of a range of a file of this size with these parts loaded; a range with no bytes is always loaded
 abbrev pub ranges_in : ℕ → List Piece → Ranges

@@ -5,12 +5,12 @@ use Rattle.elf_c.specs.File.{MissingAreEmpty, opened_in, view_over}
 use Rattle.elf_c.specs.Loaded.{is_missing, parts_in}
 use Rattle.elf_c.specs.Status.{IsWritten, status_of, unread}
 use Rattle.elf_c.specs.declared.file.NugwierFile.{NugwierFile}
-use Rattle.elf_c.specs.declared.loaded.NugwierRange.{NugwierRange}
+use Rattle.elf.specs.declared.loaded_ranges.LoadedRange.{LoadedRange}
 use Rattle.elf_c.specs.declared.status.NugwierStatus.{NugwierStatus}
 
 -- a call opened the file that these bytes hold, or returned why they hold none; before it `old` was there, and these
 -- ranges are loaded
-pub record IsOpenedAs (bytes : List ℕ) (ranges : List NugwierRange) (old new : NugwierFile) (status : NugwierStatus)
+pub record IsOpenedAs (bytes : List ℕ) (ranges : List LoadedRange) (old new : NugwierFile) (status : NugwierStatus)
     : Type 0 where
   pub answer : status ≡ status_of (opened_in bytes)
   pub file : IsWritten (λ f. view_over f bytes) new old (opened_in bytes)
@@ -20,12 +20,12 @@ pub record IsOpenedAs (bytes : List ℕ) (ranges : List NugwierRange) (old new :
   pub held : IfOk (opened_in bytes) (λ _. new.ranges.now ≡ ranges)
 
 -- a call named a range that is missing, and wrote nothing
-abbrev pub IsNotLoaded : ℕ → List NugwierRange → NugwierFile → NugwierFile → NugwierStatus → Type 0
+abbrev pub IsNotLoaded : ℕ → List LoadedRange → NugwierFile → NugwierFile → NugwierStatus → Type 0
 IsNotLoaded size ranges old new status =
     (range : ℕ × ℕ) × IsTrue (is_missing size (parts_in [] ranges) range) × (status ≡ unread (NotLoaded range))
     × (new ≡ old)
 
 -- either of them, of a file with these bytes
-abbrev pub IsOpened : List ℕ → List NugwierRange → NugwierFile → NugwierFile → NugwierStatus → Type 0
+abbrev pub IsOpened : List ℕ → List LoadedRange → NugwierFile → NugwierFile → NugwierStatus → Type 0
 IsOpened bytes ranges old new status =
     IsOpenedAs bytes ranges old new status ⊎ IsNotLoaded (length bytes) ranges old new status

@@ -1,22 +1,22 @@
 //! What is looked up most often, found in one pass over the sections.
-ghost use Rattle.std.specs.Prelude.{◌≡◌, IfOk, [], false, true};
+ghost use Rattle.std.specs.Prelude.{◌≡◌, IfOk, [], true};
 ghost use Rattle.elf.specs.Answers.{section_dynamic, symbols_of};
-ghost use Rattle.elf.specs.Common.{last_of_each};
+ghost use Rattle.elf.specs.Common.{common_of_sections, common_part, find_common_data, gnu_hash_table_of};
+ghost use Rattle.elf.specs.Common.{last_of_each, sysv_hash_table_of};
 ghost use Rattle.elf.specs.inner.Passes.{with_part};
 ghost use Rattle.elf_records.specs.Number.{ok_map};
-ghost use Rattle.elf_c.specs.Common.{AreNoSymbols, IsNoGnu, MissingAreEmpty, common_loaded, common_of_c, gnu_loaded};
-ghost use Rattle.elf_c.specs.Common.{part_loaded, sections_loaded, sysv_loaded};
+ghost use Rattle.elf_c.specs.Common.{MissingAreEmpty, common_of_c};
 ghost use Rattle.elf_c.specs.HashTables.{gnu_of_c, sysv_of_c};
 ghost use Rattle.elf_c.specs.Loaded.{loaded_of_c};
 ghost use Rattle.elf_c.specs.Status.{IsWritten, read_status};
 ghost use Rattle.elf_c.specs.Symbols.{symbols_pair};
-ghost use Rattle.elf_c.specs.Tables.{HasNoBytes, table_of_c};
+ghost use Rattle.elf_c.specs.Tables.{table_of_c};
 
 use crate::file::NugwierFile;
 use crate::hash_tables::{NugwierGnu, NugwierSysv, gnu_opened, sysv_opened};
 use crate::status::{NugwierStatus, done, unread};
 use crate::symbols::{NugwierDynamicTable, NugwierSymbolTable};
-use crate::table::{NugwierTable, records_in, table_shown};
+use crate::table::{records_in, table_shown};
 use elf::headers::Headers;
 use elf::{ReadError, abi, reader};
 use elf_parts::endian::AnyEndian;
@@ -25,7 +25,7 @@ use elf_parts::section::SectionHeader;
 /// The symbols, the dynamic entries and the hash sections of a file, each if the file has it. A hash section is opened.
 /// What the file does not have is empty: each number is 0, each `bool` is false, and there are no bytes.
 #[repr(C)]
-#[derive(Drop)]
+#[derive(Default, Drop)]
 pub struct NugwierCommon<'data> {
     pub symbols: NugwierSymbolTable<'data>,
     pub dynamic_symbols: NugwierSymbolTable<'data>,
@@ -36,67 +36,12 @@ pub struct NugwierCommon<'data> {
     pub gnu: NugwierGnu<'data>,
 }
 
-// A table with no bytes.
-fn no_table() -> NugwierTable<'static>
-    ensures { HasNoBytes false false result }
-{
-    NugwierTable {
-        little: false,
-        is_64: false,
-        bytes: &[],
-    }
-}
-
-// No symbols.
-fn no_symbols() -> NugwierSymbolTable<'static>
-    ensures { AreNoSymbols result }
-{
-    NugwierSymbolTable {
-        found: false,
-        symbols: no_table(),
-        strings: &[],
-    }
-}
-
-// An opened GNU hash section with no words.
-fn no_gnu() -> NugwierGnu<'static>
-    ensures { IsNoGnu result }
-{
-    NugwierGnu {
-        little: false,
-        is_64: false,
-        nbucket: 0,
-        first: 0,
-        nbloom: 0,
-        nshift: 0,
-        bloom: &[],
-        buckets: &[],
-        chains: &[],
-    }
-}
-
 // What is found in no sections.
 fn nothing() -> NugwierCommon<'static>
     ensures found { common_of_c result ≡ last_of_each [] }
     ensures missing { MissingAreEmpty result }
 {
-    NugwierCommon {
-        symbols: no_symbols(),
-        dynamic_symbols: no_symbols(),
-        dynamics: NugwierDynamicTable {
-            found: false,
-            entries: no_table(),
-        },
-        has_sysv: false,
-        has_gnu: false,
-        sysv: NugwierSysv {
-            little: false,
-            is_64: false,
-            buckets: &[],
-            chains: &[],
-        },
-        gnu: no_gnu(),
-    }
+    NugwierCommon::default()
 }
 
 // The symbols of a section, with their strings.
@@ -136,7 +81,7 @@ fn sysv_of<'data>(
     file: &'data NugwierFile<'data>,
     shdr: &SectionHeader,
 ) -> Result<NugwierSysv<'data>, ReadError>
-    ensures { ok_map sysv_of_c result ≡ sysv_loaded (loaded_of_c file.now) shdr.now }
+    ensures { ok_map sysv_of_c result ≡ sysv_hash_table_of (loaded_of_c file.now) shdr.now }
 {
     let bytes = reader::section_part::<AnyEndian, _>(file, shdr)?;
     Ok(sysv_opened(file.header.little, file.header.is_64, bytes)?)
@@ -148,7 +93,7 @@ fn gnu_of<'data>(
     file: &'data NugwierFile<'data>,
     shdr: &SectionHeader,
 ) -> Result<NugwierGnu<'data>, ReadError>
-    ensures { ok_map gnu_of_c result ≡ gnu_loaded (loaded_of_c file.now) shdr.now }
+    ensures { ok_map gnu_of_c result ≡ gnu_hash_table_of (loaded_of_c file.now) shdr.now }
 {
     let bytes = reader::section_part::<AnyEndian, _>(file, shdr)?;
     Ok(gnu_opened(file.header.little, file.header.is_64, bytes)?)
@@ -162,7 +107,7 @@ fn add_section<'data>(
 ) -> Result<(), ReadError>
     requires { MissingAreEmpty found.old }
     ensures found { ok_map (λ _. common_of_c found.new) result
-        ≡ ok_map (with_part (common_of_c found.old)) (part_loaded (loaded_of_c file.now) shdr.now) }
+        ≡ ok_map (with_part (common_of_c found.old)) (common_part (loaded_of_c file.now) shdr.now) }
     ensures missing { MissingAreEmpty found.new }
 {
     match shdr.sh_type {
@@ -189,11 +134,11 @@ fn add_section<'data>(
 }
 
 // What the sections hold.
-#[tactic(auto, using(crate::proofs::CommonPass::loaded_in_all, crate::proofs::CommonPass::loaded_of_none))]
+#[tactic(auto, using(elf::proofs::CommonPass::common_in_all, elf::proofs::CommonPass::common_of_none))]
 fn common_of_sections<'data>(
     file: &'data NugwierFile<'data>,
 ) -> Result<NugwierCommon<'data>, ReadError>
-    ensures found { ok_map common_of_c result ≡ sections_loaded (loaded_of_c file.now) }
+    ensures found { ok_map common_of_c result ≡ common_of_sections (loaded_of_c file.now) }
     ensures missing { IfOk result (λ found. MissingAreEmpty found) }
 {
     let mut found = nothing();
@@ -208,7 +153,7 @@ fn common_of_sections<'data>(
 
 // The same, with the dynamic entries of a segment if no section has any.
 fn common_in<'data>(file: &'data NugwierFile<'data>) -> Result<NugwierCommon<'data>, ReadError>
-    ensures found { ok_map common_of_c result ≡ common_loaded (loaded_of_c file.now) }
+    ensures found { ok_map common_of_c result ≡ find_common_data (loaded_of_c file.now) }
     ensures missing { IfOk result (λ found. MissingAreEmpty found) }
 {
     let mut found = common_of_sections(file)?;
@@ -232,9 +177,9 @@ pub extern "C" fn nugwier_common<'data>(
     file: &'data NugwierFile<'data>,
     common: &mut NugwierCommon<'data>,
 ) -> NugwierStatus
-    ensures status { result ≡ read_status (common_loaded (loaded_of_c file.now)) }
-    ensures common { IsWritten common_of_c common.new common.old (common_loaded (loaded_of_c file.now)) }
-    ensures missing { IfOk (common_loaded (loaded_of_c file.now)) (λ _. MissingAreEmpty common.new) }
+    ensures status { result ≡ read_status (find_common_data (loaded_of_c file.now)) }
+    ensures common { IsWritten common_of_c common.new common.old (find_common_data (loaded_of_c file.now)) }
+    ensures missing { IfOk (find_common_data (loaded_of_c file.now)) (λ _. MissingAreEmpty common.new) }
 {
     match common_in(file) {
         Ok(found) => {

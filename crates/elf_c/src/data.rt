@@ -25,7 +25,7 @@ use elf_parts::endian::AnyEndian;
 
 /// What the compression header of a section says. If it has none, all numbers are 0.
 #[repr(C)]
-#[derive(Clone, Copy)]
+#[derive(Clone, Copy, Default)]
 pub struct NugwierCompression {
     pub compressed: bool,
     pub kind: u32,
@@ -52,12 +52,7 @@ fn compression_shown(header: &Option<CompressionHeader>) -> NugwierCompression
             size: header.ch_size,
             addralign: header.ch_addralign,
         },
-        None => NugwierCompression {
-            compressed: false,
-            kind: 0,
-            size: 0,
-            addralign: 0,
-        },
+        None => NugwierCompression::default(),
     }
 }
 

@@ -6,7 +6,7 @@ ghost use Rattle.elf_abi.specs.Values.{dt_rpath, dt_runpath, dt_soname};
 ghost use Rattle.elf_records.specs.Number.{ok_map};
 ghost use Rattle.elf_records.specs.Table.{table_view};
 ghost use Rattle.elf_dynamic.specs.dynamic_view.Entries.{entries_in};
-ghost use Rattle.elf_linking.specs.Needed.{first_entry, is_library, name_of, strings_by};
+ghost use Rattle.elf_linking.specs.Needed.{name_of, strings_by};
 ghost use Rattle.elf_c.specs.DynamicNames.{IsNextLibrary, dynamic_names, dynamic_names_view, libraries_left};
 ghost use Rattle.elf_c.specs.DynamicNames.{name_with, names_pair, needed_view, next_needed, no_dynamic_names_in};
 ghost use Rattle.elf_c.specs.DynamicNames.{no_needed_in};
@@ -20,8 +20,8 @@ use crate::strings::NugwierFoundBytes;
 use crate::table::{NugwierTable, records_in, table_shown};
 use elf::laws::tables::{iter_gives_len_records, iter_gives_whatever_get_gives};
 use elf::{abi, reader};
-use elf_dynamic::dynamic_view::has_tag;
-use elf_linking::needed::{DT_AUXILIARY, DT_FILTER, NamesError, strings_of};
+use elf_dynamic::dynamic_view::{has_tag, value};
+use elf_linking::needed::{NamesError, is_library, strings_at};
 use elf_parts::dynamic::{Dyn, DynamicTable};
 use elf_parts::endian::AnyEndian;
 use elf_parts::string_table::StringTable;
@@ -46,24 +46,7 @@ pub struct NugwierNeeded<'data> {
     pub name: &'data [u8],
 }
 
-// The first entry of a table, before one with the tag `DT_NULL`, with a tag.
-#[tactic(auto, using(crate::proofs::DynamicNames::first_is))]
-fn first_entry(entries: &DynamicTable<'_, AnyEndian>, tag: i64) -> Option<Dyn>
-    ensures { result ≡ first_entry tag (entries_in (table_view entries.now)) }
-{
-    for entry in entries.iter() {
-        if has_tag(&entry, abi::DT_NULL) {
-            return None;
-        }
-        if has_tag(&entry, tag) {
-            return Some(entry);
-        }
-    }
-    None
-}
-
-// The strings of the entries: the address and the size of these are in two of them.
-#[tactic(auto, using(crate::proofs::DynamicNames::same_strings))]
+// The strings of the entries.
 fn strings_in<'data>(
     file: &'data NugwierFile<'data>,
     entries: &DynamicTable<'_, AnyEndian>,
@@ -71,13 +54,13 @@ fn strings_in<'data>(
     ensures { ok_map (λ strings. strings.now) result
         ≡ strings_by (loaded_of_c file.now) (entries_in (table_view entries.now)) }
 {
-    let Some(address) = first_entry(entries, abi::DT_STRTAB) else {
+    let Some(address) = value(entries, abi::DT_STRTAB) else {
         return Err(NamesError::NoAddress);
     };
-    let Some(size) = first_entry(entries, abi::DT_STRSZ) else {
+    let Some(size) = value(entries, abi::DT_STRSZ) else {
         return Err(NamesError::NoSize);
     };
-    strings_of::<AnyEndian, _>(file, &[address, size])
+    strings_at::<AnyEndian, _>(file, address, size)
 }
 
 // The dynamic entries of a file with their strings.
@@ -126,30 +109,30 @@ pub extern "C" fn nugwier_dynamic_names<'data>(
     }
 }
 
-// The string that an entry names.
-fn name_of<'data>(strings: &'data [u8], entry: &Dyn) -> Result<&'data [u8], NamesError>
-    ensures { ok_map (λ name. name.now) result ≡ name_of strings.now entry.now }
+// The string at an offset.
+fn name_of<'data>(strings: &'data [u8], offset: u64) -> Result<&'data [u8], NamesError>
+    ensures { ok_map (λ name. name.now) result ≡ name_of strings.now offset }
 {
-    match StringTable::new(strings).get_raw(entry.d_val() as usize) {
+    match StringTable::new(strings).get_raw(offset as usize) {
         Ok(name) => Ok(name),
         Err(error) => Err(NamesError::Name(error)),
     }
 }
 
-// The string that the first entry with a tag names.
+// The string that a tag gives.
 fn name_with<'data>(
     names: &NugwierDynamicNames<'data>,
     tag: i64,
 ) -> Result<Option<&'data [u8]>, NamesError>
     ensures { ok_map (option_map (λ name. name.now)) result ≡ name_with tag names.now }
 {
-    match first_entry(&records_in(&names.entries), tag) {
-        Some(entry) => name_of(names.strings, &entry).map(Some),
+    match value(&records_in(&names.entries), tag) {
+        Some(offset) => name_of(names.strings, offset).map(Some),
         None => Ok(None),
     }
 }
 
-// Writes the string that the first entry with a tag names, or that there is none.
+// Writes the string that a tag gives, or that there is none.
 fn write_name<'data>(
     names: &NugwierDynamicNames<'data>,
     tag: i64,
@@ -171,7 +154,7 @@ fn write_name<'data>(
     }
 }
 
-/// Finds the name by which others need a file, that of its first entry `DT_SONAME`. If there is none, `found` is false,
+/// Finds the name by which others need a file, that of its last entry `DT_SONAME`. If there is none, `found` is false,
 /// and nothing else is written. An error leaves `soname` as it is; the errors are those of `StringTable::get_raw`.
 #[unsafe(no_mangle)]
 pub extern "C" fn nugwier_soname<'data>(
@@ -184,7 +167,7 @@ pub extern "C" fn nugwier_soname<'data>(
     write_name(names, abi::DT_SONAME, soname)
 }
 
-/// Finds the search paths of libraries that the first entry `DT_RUNPATH` names, as `nugwier_soname` does the soname.
+/// Finds the search paths of libraries that the last entry `DT_RUNPATH` names, as `nugwier_soname` does the soname.
 #[unsafe(no_mangle)]
 pub extern "C" fn nugwier_runpath<'data>(
     names: &NugwierDynamicNames<'data>,
@@ -196,7 +179,7 @@ pub extern "C" fn nugwier_runpath<'data>(
     write_name(names, abi::DT_RUNPATH, runpath)
 }
 
-/// Finds the search paths of libraries that the first entry `DT_RPATH` names, as `nugwier_soname` does the soname.
+/// Finds the search paths of libraries that the last entry `DT_RPATH` names, as `nugwier_soname` does the soname.
 #[unsafe(no_mangle)]
 pub extern "C" fn nugwier_rpath<'data>(
     names: &NugwierDynamicNames<'data>,
@@ -206,13 +189,6 @@ pub extern "C" fn nugwier_rpath<'data>(
     ensures rpath { IsWrittenIf found_bytes no_bytes_in rpath.new rpath.old (name_with dt_rpath names.now) }
 {
     write_name(names, abi::DT_RPATH, rpath)
-}
-
-// Whether the entry names a library that is loaded with the file.
-fn is_library(entry: &Dyn) -> bool
-    ensures { result ≡ is_library entry.now }
-{
-    has_tag(entry, abi::DT_NEEDED) || has_tag(entry, DT_AUXILIARY) || has_tag(entry, DT_FILTER)
 }
 
 // The first entry of a library, from entry number `from` on up to the next `DT_NULL`, and the number of the entry after
@@ -258,7 +234,7 @@ pub extern "C" fn nugwier_needed<'data>(
         return done();
     };
     *next = after;
-    match name_of(names.strings, &entry) {
+    match name_of(names.strings, entry.d_val()) {
         Ok(name) => {
             *needed = NugwierNeeded {
                 found: true,

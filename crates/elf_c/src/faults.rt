@@ -1,7 +1,7 @@
 //! The faults of a file as C sees them.
 ghost use Rattle.std.specs.Prelude.{◌≡◌};
-ghost use Rattle.elf_c.specs.Faults.{definitions_fault, dynamic_fault, fault, fault_shown, hash_fault};
-ghost use Rattle.elf_c.specs.Faults.{hash_section_fault, needs_fault, no_fault, of_section, of_segment};
+ghost use Rattle.elf_c.specs.Faults.{chain_fault, dynamic_fault, fault, fault_shown, hash_fault};
+ghost use Rattle.elf_c.specs.Faults.{hash_section_fault, no_fault, of_section, of_segment};
 ghost use Rattle.elf_c.specs.Faults.{of_versions, relocations_fault, section_fault, segment_fault, segments_fault};
 ghost use Rattle.elf_c.specs.Faults.{symbol_fault, symbols_fault, versions_fault};
 
@@ -215,25 +215,14 @@ fn section_fault(section: usize, found: &SectionFault) -> NugwierFault
     }
 }
 
-// The fault of the needs.
-fn needs_fault(found: &ChainFault) -> NugwierFault
-    ensures { result ≡ needs_fault found.now }
+// The fault of the needs or of the definitions, by the kinds that it has there.
+fn chain_fault(short: u32, not_last: u32, at: u32, found: &ChainFault) -> NugwierFault
+    ensures { result ≡ chain_fault short not_last at found.now }
 {
     match *found {
-        ChainFault::Short { found } => of_versions(kinds::NEEDS_SHORT, found),
-        ChainFault::NotLast => of_versions(kinds::NEEDS_NOT_LAST, 0),
-        ChainFault::At { index } => of_versions(kinds::NEED_UNREADABLE, index),
-    }
-}
-
-// The fault of the definitions.
-fn definitions_fault(found: &ChainFault) -> NugwierFault
-    ensures { result ≡ definitions_fault found.now }
-{
-    match *found {
-        ChainFault::Short { found } => of_versions(kinds::DEFINITIONS_SHORT, found),
-        ChainFault::NotLast => of_versions(kinds::DEFINITIONS_NOT_LAST, 0),
-        ChainFault::At { index } => of_versions(kinds::DEFINITION_UNREADABLE, index),
+        ChainFault::Short { found } => of_versions(short, found),
+        ChainFault::NotLast => of_versions(not_last, 0),
+        ChainFault::At { index } => of_versions(at, index),
     }
 }
 
@@ -244,10 +233,20 @@ fn versions_fault(found: &VersionsFault) -> NugwierFault
     match found {
         VersionsFault::NeedsUnreadable => of_versions(kinds::NEEDS_UNREADABLE, 0),
         VersionsFault::NeedsTooLong => of_versions(kinds::NEEDS_TOO_LONG, 0),
-        VersionsFault::FaultyNeeds(fault) => needs_fault(fault),
+        VersionsFault::FaultyNeeds(fault) => chain_fault(
+            kinds::NEEDS_SHORT,
+            kinds::NEEDS_NOT_LAST,
+            kinds::NEED_UNREADABLE,
+            fault,
+        ),
         VersionsFault::DefinitionsUnreadable => of_versions(kinds::DEFINITIONS_UNREADABLE, 0),
         VersionsFault::DefinitionsTooLong => of_versions(kinds::DEFINITIONS_TOO_LONG, 0),
-        VersionsFault::FaultyDefinitions(fault) => definitions_fault(fault),
+        VersionsFault::FaultyDefinitions(fault) => chain_fault(
+            kinds::DEFINITIONS_SHORT,
+            kinds::DEFINITIONS_NOT_LAST,
+            kinds::DEFINITION_UNREADABLE,
+            fault,
+        ),
         VersionsFault::PartOfIndex => of_versions(kinds::PART_OF_VERSION_INDEX, 0),
         VersionsFault::IndexesUnreadable => of_versions(kinds::VERSION_INDEXES_UNREADABLE, 0),
         VersionsFault::NoDynamicSymbols => of_versions(kinds::NO_DYNAMIC_SYMBOLS, 0),

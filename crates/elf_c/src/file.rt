@@ -9,12 +9,11 @@ ghost use Rattle.elf_c.specs.File.{opened_in, segment_at, table_if, view_over};
 ghost use Rattle.elf_c.specs.Records.{section_shown, segment_shown};
 ghost use Rattle.elf_c.specs.Status.{IsWritten, status_of, written};
 
-use crate::loaded::NugwierRange;
 use crate::records::{NugwierSection, NugwierSegment};
 use crate::status::{NugwierStatus, done, refused};
 use crate::table::{ForC, NugwierTable, class_in, is_64, order_in, records_in};
 use elf::headers::Headers;
-use elf::{ElfBytes, ParseError};
+use elf::{ElfBytes, LoadedRange, ParseError};
 use elf_parts::endian::{AnyEndian, EndianParse};
 use elf_parts::file::FileHeader;
 use elf_parts::parse::{ParseAt, ParsingTable};
@@ -55,7 +54,7 @@ pub struct NugwierFile<'data> {
     pub header: NugwierHeader,
     pub size: u64,
     pub bytes: &'data [u8],
-    pub ranges: &'data [NugwierRange<'data>],
+    pub ranges: &'data [LoadedRange<'data>],
     pub has_sections: bool,
     pub has_segments: bool,
     pub sections: NugwierTable<'data>,

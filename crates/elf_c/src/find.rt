@@ -17,7 +17,7 @@ use elf_parts::symbol::Symbol;
 
 /// A symbol that was looked up, and its index. If there is none, all numbers are 0.
 #[repr(C)]
-#[derive(Clone, Copy)]
+#[derive(Clone, Copy, Default)]
 pub struct NugwierFound {
     pub found: bool,
     pub index: usize,
@@ -34,18 +34,7 @@ pub(crate) fn found_shown(found: &Option<(usize, Symbol)>) -> NugwierFound
             index: *index,
             symbol: symbol.show(),
         },
-        None => NugwierFound {
-            found: false,
-            index: 0,
-            symbol: NugwierSymbol {
-                name: 0,
-                info: 0,
-                other: 0,
-                shndx: 0,
-                value: 0,
-                size: 0,
-            },
-        },
+        None => NugwierFound::default(),
     }
 }
 
@@ -83,44 +72,6 @@ pub(crate) fn write_found(
     }
 }
 
-// Opens a GNU hash section and looks a name up in it. The look-up is that of the export that takes an opened section.
-#[inline(always)]
-fn find_in_gnu(
-    section: &[u8],
-    symbols: &NugwierTable<'_>,
-    strings: &[u8],
-    name: &[u8],
-    found: &mut NugwierFound,
-) -> NugwierStatus
-    ensures status { result ≡ status_of (gnu_found section.now symbols.now strings.now name.now) }
-    ensures found { found.new ≡ written found_shown found.old
-        (gnu_found section.now symbols.now strings.now name.now) }
-{
-    match gnu_opened(symbols.little, symbols.is_64, section) {
-        Ok(gnu) => nugwier_gnu_look_up(&gnu, symbols, strings, name, found),
-        Err(error) => refused(&error),
-    }
-}
-
-// The same of a SysV hash section.
-#[inline(always)]
-fn find_in_sysv(
-    section: &[u8],
-    symbols: &NugwierTable<'_>,
-    strings: &[u8],
-    name: &[u8],
-    found: &mut NugwierFound,
-) -> NugwierStatus
-    ensures status { result ≡ status_of (sysv_found section.now symbols.now strings.now name.now) }
-    ensures found { found.new ≡ written found_shown found.old
-        (sysv_found section.now symbols.now strings.now name.now) }
-{
-    match sysv_opened(symbols.little, symbols.is_64, section) {
-        Ok(sysv) => nugwier_sysv_look_up(&sysv, symbols, strings, name, found),
-        Err(error) => refused(&error),
-    }
-}
-
 /// Looks a name up in a GNU hash section, for these symbols and their strings. An error leaves `found` as it is; the
 /// errors are those of `GnuHashTable::new`, then those of its `find`. On a section that `nugwier_hash_check` calls
 /// sound there is no error, and the symbol is the one with the least index of all that the section indexes and that
@@ -140,7 +91,10 @@ pub extern "C" fn nugwier_gnu_find(
         (λ s. FindsLeast s name.now result found.new) }
 {
     gnu_find_on_sound(section);
-    find_in_gnu(section, symbols, strings, name, found)
+    match gnu_opened(symbols.little, symbols.is_64, section) {
+        Ok(gnu) => nugwier_gnu_look_up(&gnu, symbols, strings, name, found),
+        Err(error) => refused(&error),
+    }
 }
 
 /// Looks a name up in a SysV hash section, for these symbols and their strings. An error leaves `found` as it is; the
@@ -161,7 +115,10 @@ pub extern "C" fn nugwier_sysv_find(
         (λ s. FindsFirst s name.now result found.new) }
 {
     sysv_find_on_sound(section);
-    find_in_sysv(section, symbols, strings, name, found)
+    match sysv_opened(symbols.little, symbols.is_64, section) {
+        Ok(sysv) => nugwier_sysv_look_up(&sysv, symbols, strings, name, found),
+        Err(error) => refused(&error),
+    }
 }
 
 /// What a check says of a hash section: whether it is sound, and then how many symbols it indexes, otherwise 0.

@@ -21,7 +21,7 @@ use elf_parts::symbol::{Symbol, SymbolTable};
 /// A GNU hash section that was opened: the numbers of its header, its bloom words, the words of its buckets, and its
 /// chain words. It belongs to the caller, and holds nothing that has to be freed.
 #[repr(C)]
-#[derive(Drop)]
+#[derive(Default, Drop)]
 pub struct NugwierGnu<'data> {
     pub little: bool,
     pub is_64: bool,
@@ -37,7 +37,7 @@ pub struct NugwierGnu<'data> {
 /// A SysV hash section that was opened: the words of its buckets, and its chain words. It belongs to the caller, and
 /// holds nothing that has to be freed.
 #[repr(C)]
-#[derive(Drop)]
+#[derive(Default, Drop)]
 pub struct NugwierSysv<'data> {
     pub little: bool,
     pub is_64: bool,

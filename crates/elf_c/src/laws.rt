@@ -1,8 +1,7 @@
 //! Laws of files that are loaded in part, of files that lie in memory, and of those that `nugwier_check` calls sound.
 //! They are theorems: each is the contract of a function that does nothing for its caller.
-ghost use Rattle.std.specs.Prelude.{◌≡◌, ℕ, All, List, Ok, false, length, slice_get};
+ghost use Rattle.std.specs.Prelude.{◌≡◌, ℕ, All, List, Ok, false, length};
 ghost use Rattle.std.specs.Option.{option_map};
-ghost use Rattle.std.specs.Result.{result_ok};
 ghost use Rattle.elf_records.specs.Endian.{any_is_little};
 ghost use Rattle.elf_reading.specs.Cache.{IsOf};
 ghost use Rattle.elf.specs.Answers.{first_symbols};
@@ -15,8 +14,7 @@ ghost use Rattle.elf_c.specs.Loaded.{is_missing, loaded_of_c, parts_of_c, ranges
 ghost use Rattle.elf_c.specs.Symbols.{symbols_type};
 
 use crate::file::{NugwierFile, file_in};
-use elf::laws::lists::list_is_what_get_gives;
-use elf::section::SectionHeader;
+use elf::readers::sections_are_listed;
 use elf_check::faults::FileVerdict;
 use elf_check::{WholeFile, WholeSymbols, check_file};
 use elf_parts::endian::AnyEndian;
@@ -41,27 +39,13 @@ pub fn whole_file_is_loaded(file: &NugwierFile<'_>)
     let _ = &file.size;
 }
 
-// Section i of the list is the section of index i.
-fn sections_are_listed(file: &NugwierFile<'_>)
-    ensures { let whole = file_of_c file.now in
-        (i : ℕ) → slice_get whole.sections i ≡ result_ok (whole.section_at i) }
-{
-    list_is_what_get_gives::<SectionHeader>();
-    match file_in(file).section_headers() {
-        Some(shdrs) => {
-            let _ = shdrs.len();
-        }
-        None => {}
-    }
-}
-
 /// Of a file in memory that `nugwier_check` calls sound these calls return `NUGWIER_OK`: `nugwier_section_names`;
 /// `nugwier_section_by_name`, whatever the name; `nugwier_section` for each index below the number of sections; and for
 /// each section `nugwier_section_data`, and `nugwier_string` at the offset of its name, if there are names.
 pub fn sections_are_read(file: &NugwierFile<'_>)
     ensures { let whole = file_of_c file.now in SoundFile whole → AreSectionsRead whole }
 {
-    sections_are_listed(file);
+    sections_are_listed(&file_in(file));
 }
 
 // The symbols of a file that was checked.

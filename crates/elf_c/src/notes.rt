@@ -1,7 +1,7 @@
 //! Notes.
 ghost use Rattle.std.specs.Prelude.{◌≡◌, ◌<◌, ◌≤◌, IsErr, Ok, drop, length};
 ghost use Rattle.elf_parts.specs.Note.{note_view};
-ghost use Rattle.elf_c.specs.Notes.{AreNotes, IsNote, IsNoteWritten, no_tag, note_after, note_of_c};
+ghost use Rattle.elf_c.specs.Notes.{AreNotes, IsNote, IsNoteWritten, note_after, note_of_c};
 ghost use Rattle.elf_c.specs.Status.{status_of, written};
 
 use crate::status::{NugwierStatus, done, refused};
@@ -19,7 +19,7 @@ pub struct NugwierNotes<'data> {
 
 /// The oldest version of an operating system that a program runs on.
 #[repr(C)]
-#[derive(Clone, Copy)]
+#[derive(Clone, Copy, Default)]
 pub struct NugwierAbiTag {
     pub os: u32,
     pub major: u32,
@@ -38,18 +38,6 @@ pub struct NugwierNote<'data> {
     pub n_type: u64,
     pub name: &'data [u8],
     pub desc: &'data [u8],
-}
-
-// No ABI tag.
-fn no_tag() -> NugwierAbiTag
-    ensures { result ≡ no_tag }
-{
-    NugwierAbiTag {
-        os: 0,
-        major: 0,
-        minor: 0,
-        subminor: 0,
-    }
 }
 
 // A note as C sees it.
@@ -71,14 +59,14 @@ fn note_shown<'data>(note: &Note<'data>) -> NugwierNote<'data>
         },
         Note::GnuBuildId(id) => NugwierNote {
             kind: 2,
-            tag: no_tag(),
+            tag: NugwierAbiTag::default(),
             n_type: abi::NT_GNU_BUILD_ID,
             name: &[],
             desc: id.0,
         },
         Note::Unknown(any) => NugwierNote {
             kind: 0,
-            tag: no_tag(),
+            tag: NugwierAbiTag::default(),
             n_type: any.n_type,
             name: any.name,
             desc: any.desc,

@@ -5,16 +5,16 @@ ghost use Rattle.elf.specs.ElfBytes.{view};
 ghost use Rattle.elf_reading.specs.Cache.{IsOf};
 ghost use Rattle.elf_records.specs.Number.{ok_map};
 ghost use Rattle.elf_records.specs.Table.{table_view};
-ghost use Rattle.elf_c.specs.Loaded.{part_of_c};
+ghost use Rattle.elf.specs.LoadedRanges.{part_of};
 ghost use Rattle.elf_c.specs.Opening.{IsOpened};
 ghost use Rattle.elf_c.specs.inner.OwnTables.{HasOwnTables, IsOwn};
 ghost use Rattle.elf_c.specs.inner.Steps.{count_by, first_by, header_by, moved, opened_by, ranges_of, records_by};
 ghost use Rattle.elf_c.specs.inner.Steps.{table_by};
 
 use crate::file::{NugwierFile, file_shown};
-use crate::loaded::{Loaded, NugwierRange};
+use crate::loaded::Loaded;
 use crate::status::{NugwierStatus, done, unread};
-use elf::{ElfBytes, ParseError, ReadError, abi};
+use elf::{ElfBytes, LoadedRange, ParseError, ReadError, abi};
 use elf_parts::endian::AnyEndian;
 use elf_parts::file::{Class, ELF32_EHDR_TAILSIZE, ELF64_EHDR_TAILSIZE, FileHeader, parse_ident};
 use elf_parts::parse::{ParseAt, ParsingTable};
@@ -140,10 +140,10 @@ fn opened<'data>(loaded: &Loaded<'data>) -> Result<ElfBytes<'data, AnyEndian>, R
 #[unsafe(no_mangle)]
 pub extern "C" fn nugwier_open_ranges<'data>(
     size: u64,
-    ranges: &'data [NugwierRange<'data>],
+    ranges: &'data [LoadedRange<'data>],
     file: &mut NugwierFile<'data>,
 ) -> NugwierStatus
-    ensures { (bytes : List ℕ) → size ≡ length bytes → All (IsOf bytes) (map part_of_c ranges.now)
+    ensures { (bytes : List ℕ) → size ≡ length bytes → All (IsOf bytes) (map part_of ranges.now)
         → IsOpened bytes ranges.now file.old file.new result }
 {
     let loaded = Loaded {

@@ -22,7 +22,7 @@ use elf_parts::symbol::Symbol;
 
 /// A symbol.
 #[repr(C)]
-#[derive(Clone, Copy)]
+#[derive(Clone, Copy, Default)]
 pub struct NugwierSymbol {
     pub name: u32,
     pub info: u8,

@@ -19,6 +19,7 @@ use crate::loaded::loaded_in;
 use crate::records::NugwierSection;
 use crate::status::{NugwierStatus, done, unread};
 use crate::table::{ForC, records_in};
+use elf::headers::has_name;
 use elf::reader::Reader;
 use elf::{ReadError, abi, reader};
 use elf_parts::endian::{AnyEndian, LittleEndian};
@@ -86,17 +87,6 @@ fn names_quickly<'data>(file: &NugwierFile<'data>) -> Option<StringTable<'data>>
     let shdr = name_section_quickly(file)?;
     let bytes = loaded_in(file).range_quickly(shdr.sh_offset, shdr.sh_size)?;
     Some(StringTable::new(bytes))
-}
-
-// Whether a section has this name.
-#[inline(always)]
-fn has_name(names: &TerminatedStrings<'_>, name: &[u8], shdr: &SectionHeader) -> bool
-    ensures { result ≡ has_name names.now name.now shdr.now }
-{
-    match names.is_quickly(shdr.sh_name as usize, name) {
-        Some(is_named) => is_named,
-        None => false,
-    }
 }
 
 // The first header with a name in a table of a 64-bit little-endian file: `first_named`, which serves any table, makes

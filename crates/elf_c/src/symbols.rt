@@ -17,7 +17,7 @@ use elf_parts::endian::AnyEndian;
 
 /// The symbols of a file with their strings, if it has any.
 #[repr(C)]
-#[derive(Drop)]
+#[derive(Default, Drop)]
 pub struct NugwierSymbolTable<'data> {
     pub found: bool,
     pub symbols: NugwierTable<'data>,
@@ -26,7 +26,7 @@ pub struct NugwierSymbolTable<'data> {
 
 /// The dynamic entries of a file, if it has any.
 #[repr(C)]
-#[derive(Drop)]
+#[derive(Default, Drop)]
 pub struct NugwierDynamicTable<'data> {
     pub found: bool,
     pub entries: NugwierTable<'data>,

@@ -12,7 +12,7 @@ use elf_parts::parse::{ParseAt, ParsingTable};
 
 /// The bytes of a table, and the byte order and the class of its records.
 #[repr(C)]
-#[derive(Drop)]
+#[derive(Default, Drop)]
 pub struct NugwierTable<'data> {
     pub little: bool,
     pub is_64: bool,
@@ -185,7 +185,7 @@ fn fill_front<R: ForC>(table: &NugwierTable<'_>, first: usize, places: &mut [R::
     ensures read { IsFilled R.reads R.shown (table_of_c table.now) first result places.new }
     ensures rest { drop result places.new ≡ drop result places.old }
 {
-    if !R::is_local() {
+    if !R::SHAPE.2 {
         return 0;
     }
     if table.little {

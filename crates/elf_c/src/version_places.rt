@@ -24,7 +24,7 @@ use elf_parts::gnu_symver::{NeedPlace, VerDef, VerNeedAux, first_needed, hold_ne
 /// The first needed version with a version index; `found` is 0 if there is none. Its flags, its hash, and where the
 /// names of its file and of the version begin in the strings of the needs, in bytes.
 #[repr(C)]
-#[derive(Clone, Copy)]
+#[derive(Clone, Copy, Default)]
 pub struct NugwierPlacedNeed {
     pub found: u16,
     pub flags: u16,
@@ -36,7 +36,7 @@ pub struct NugwierPlacedNeed {
 /// The first definition with a version index; `found` is 0 if there is none. Its flags, its hash, and its names: at most
 /// `count`, the first at `offset` of the entries of the definitions, in bytes.
 #[repr(C)]
-#[derive(Clone, Copy)]
+#[derive(Clone, Copy, Default)]
 pub struct NugwierPlacedDefinition {
     pub found: u16,
     pub flags: u16,
@@ -47,23 +47,10 @@ pub struct NugwierPlacedDefinition {
 
 /// The place of a version index. The place with number `k` is that of the index `k`.
 #[repr(C)]
-#[derive(Clone, Copy)]
+#[derive(Clone, Copy, Default)]
 pub struct NugwierVersionPlace {
     pub need: NugwierPlacedNeed,
     pub definition: NugwierPlacedDefinition,
-}
-
-// No need.
-fn no_need() -> NugwierPlacedNeed
-    ensures { need_held result ≡ None }
-{
-    NugwierPlacedNeed {
-        found: 0,
-        flags: 0,
-        hash: 0,
-        file: 0,
-        name: 0,
-    }
 }
 
 // What is placed of a needed version. `file` is the offset of the name of its file.
@@ -172,10 +159,7 @@ pub extern "C" fn nugwier_place_versions(
 )
     ensures { HoldVersions versions.now places.new }
 {
-    places.fill(NugwierVersionPlace {
-        need: no_need(),
-        definition: no_definition(),
-    });
+    places.fill(NugwierVersionPlace::default());
     hold_needs(places, needs_in(&versions.needs));
     place_definitions(places, &versions.definitions);
 }
@@ -194,7 +178,7 @@ pub(crate) fn need_with(
     }
     match first_needed(needs_in(needs), index) {
         Some((need, version)) => placed_need(need.vn_file, &version),
-        None => no_need(),
+        None => NugwierPlacedNeed::default(),
     }
 }
 

@@ -51,17 +51,13 @@ fn show_case(rt: &HostRuntime, case: &str) -> Result<(), RowError> {
         return Ok(show_answer(rt, words.split_whitespace(), &FilesBeside { rt })?);
     }
     let mut row = Words::new(case);
-    show_in_memory(rt, &mut row)?;
-    row.end()
-}
-
-fn show_in_memory(rt: &HostRuntime, row: &mut Words<'_>) -> io::Result<()> {
     let data = row.file(rt);
     let files = MemFile {
         alloc: rt.alloc(),
         bytes: data.as_slice(),
     };
-    show_answer(rt, row.rest(), &files)
+    show_answer(rt, row.rest(), &files)?;
+    row.end()
 }
 
 fn show_answer<F: FileSystem>(
@@ -69,18 +65,13 @@ fn show_answer<F: FileSystem>(
     line: SplitWhitespace<'_>,
     files: &F,
 ) -> io::Result<()> {
-    let words = case_words(rt, line)?;
+    let mut words = Vec::new(rt.alloc());
+    for word in line {
+        words.push(if word == "''" { "" } else { word })?;
+    }
     let mut out = BufWriter::new(rt.alloc(), rt.stdout())?;
     let mut err = Vec::new(rt.alloc());
     let status = show(rt.alloc(), words.as_slice(), files, &mut out, &mut err);
     println!(rt; "status {status}")?;
     rt.stdout().write_all(err.as_slice())
-}
-
-fn case_words<'a>(rt: &HostRuntime, line: SplitWhitespace<'a>) -> io::Result<Vec<&'a str>> {
-    let mut words = Vec::new(rt.alloc());
-    for word in line {
-        words.push(if word == "''" { "" } else { word })?;
-    }
-    Ok(words)
 }

@@ -1,5 +1,4 @@
 //! The common data of a file, and what its hash sections find in it.
-use crate::records::show_items;
 use crate::shown::{show, show_refusal};
 use elf::endian::EndianParse;
 use elf::{CommonElfData, ElfBytes};
@@ -13,18 +12,14 @@ pub(crate) fn show_common<E: EndianParse>(
 ) -> io::Result<()> {
     match file.find_common_data() {
         Ok(common) => {
-            show_there(rt, &common)?;
+            let symtab = common.symtab.is_some();
+            let dynsyms = common.dynsyms.is_some();
+            let dynamic = common.dynamic.map(|table| table.len());
+            print!(rt; "symtab {symtab} dynsyms {dynsyms} dynamic {dynamic:?}")?;
             show_found(rt, &common, name)
         }
         Err(error) => show_refusal(rt, error),
     }
-}
-
-fn show_there<E: EndianParse>(rt: &HostRuntime, common: &CommonElfData<'_, E>) -> io::Result<()> {
-    let symtab = common.symtab.is_some();
-    let dynsyms = common.dynsyms.is_some();
-    let dynamic = common.dynamic.map(|table| table.len());
-    print!(rt; "symtab {symtab} dynsyms {dynsyms} dynamic {dynamic:?}")
 }
 
 fn show_found<E: EndianParse>(
@@ -44,16 +39,4 @@ fn show_found<E: EndianParse>(
         show(rt, table.find(name, &*symbols, &*strings))?;
     }
     Ok(())
-}
-
-/// The entries of the dynamic table among the common data.
-pub(crate) fn show_common_dynamic<E: EndianParse>(
-    rt: &HostRuntime,
-    file: &ElfBytes<'_, E>,
-) -> io::Result<()> {
-    match file.find_common_data().map(|common| common.dynamic) {
-        Ok(Some(table)) => show_items(rt, &table, table.len()),
-        Ok(None) => print!(rt; "none"),
-        Err(error) => show_refusal(rt, error),
-    }
 }

@@ -31,10 +31,13 @@ pub(crate) fn show_ends(rt: &HostRuntime, words: &mut Words<'_>) -> io::Result<(
         class,
         count,
     };
-    match first_that_goes_on(row, kind, data.as_slice()) {
-        None => print!(rt; "few items, then None three times"),
-        Some(place) => print!(rt; "goes on from place {place}"),
+    for place in 0..=data.len() {
+        let (_, rest) = data.as_slice().split_at(place);
+        if !is_ended(row, kind, rest) {
+            return print!(rt; "goes on from place {place}");
+        }
     }
+    print!(rt; "few items, then None three times")
 }
 
 /// The arguments of a row for an iterator.
@@ -45,52 +48,37 @@ struct Row {
     count: u64,
 }
 
-/// The first place at which an iterator starts that yields too many items or does not stay ended.
-fn first_that_goes_on(row: Row, kind: &str, data: &[u8]) -> Option<usize> {
-    for place in 0..=data.len() {
-        let (_, rest) = data.split_at(place);
-        if !is_ended(row, kind, rest) {
-            return Some(place);
-        }
-    }
-    None
-}
-
 fn is_ended(row: Row, kind: &str, data: &[u8]) -> bool {
     let Row {
         order,
         class,
         count,
     } = row;
+    // How many linked records there may be.
+    let most = data.len().min(count as usize);
+    let start = usize::MAX;
     match kind {
         "NoteIterator" => is_few(
             NoteIterator::new(order, class, count as usize, data),
             data.len(),
         ),
         "VerDefIterator" => {
-            is_few(
-                VerDefIterator::new(order, class, count, 0, data),
-                least(count, data),
-            ) && is_few(
-                VerDefIterator::new(order, class, count, usize::MAX, data),
-                0,
-            )
+            is_few(VerDefIterator::new(order, class, count, 0, data), most)
+                && is_few(VerDefIterator::new(order, class, count, start, data), 0)
         }
         "VerNeedIterator" => {
-            is_few(
-                VerNeedIterator::new(order, class, count, 0, data),
-                least(count, data),
-            ) && is_few(
-                VerNeedIterator::new(order, class, count, usize::MAX, data),
-                0,
-            )
+            is_few(VerNeedIterator::new(order, class, count, 0, data), most)
+                && is_few(VerNeedIterator::new(order, class, count, start, data), 0)
         }
         "SectionHeader" => is_table_ended::<SectionHeader>(row, data),
         "Symbol" => is_table_ended::<Symbol>(row, data),
         "Rela" => is_table_ended::<Rela>(row, data),
         "Dyn" => is_table_ended::<Dyn>(row, data),
         "u32" => is_table_ended::<u32>(row, data),
-        _ => is_aux_ended(row, kind, data),
+        _ => match u16::try_from(count) {
+            Ok(count) => is_aux_ended(row, kind, count, data),
+            Err(_) => false,
+        },
     }
 }
 
@@ -101,11 +89,8 @@ fn is_table_ended<P: ParseAt + Drop>(row: Row, data: &[u8]) -> bool {
     )
 }
 
-fn is_aux_ended(row: Row, kind: &str, data: &[u8]) -> bool {
-    let Ok(count) = u16::try_from(row.count) else {
-        return false;
-    };
-    let most = least(row.count, data);
+fn is_aux_ended(row: Row, kind: &str, count: u16, data: &[u8]) -> bool {
+    let most = data.len().min(count as usize);
     let names = VerDefAuxIterator::new(row.order, row.class, count, 0, data);
     match kind {
         "VerDefAuxIterator" => is_few(names, most),
@@ -121,11 +106,6 @@ fn is_aux_ended(row: Row, kind: &str, data: &[u8]) -> bool {
     }
 }
 
-/// How many linked records there may be.
-fn least(count: u64, data: &[u8]) -> usize {
-    data.len().min(count as usize)
-}
-
 fn is_few<I: Iterator + Drop>(items: I, most: usize) -> bool
 where
     I::Item: Drop,
@@ -138,14 +118,5 @@ where
             break;
         }
     }
-    is_over(&mut items)
-}
-
-/// Whether an iterator gives `None` three times.
-fn is_over<I: Iterator>(items: &mut I) -> bool
-where
-    I::Item: Drop,
-    requires { (items : I) → I.can_next items }
-{
     items.next().is_none() && items.next().is_none() && items.next().is_none()
 }

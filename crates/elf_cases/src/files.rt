@@ -1,14 +1,10 @@
 //! File headers, and files that are opened.
-use crate::methods::{Given, show_method};
-use crate::records::show_items;
+use crate::methods::{Given, show_method, show_table};
 use crate::row_words::{Words, field_of};
 use crate::shown::{show, show_refusal};
 use elf::ElfBytes;
 use elf::endian::{AnyEndian, BigEndian, EndianParse, LittleEndian};
 use elf::file::{Class, FileHeader, parse_ident};
-use elf::parse::{ParseAt, ParsingTable};
-use elf::section::{SectionHeader, SectionHeaderTable};
-use elf::string_table::StringTable;
 use std::fmt::Debug;
 use std::io;
 
@@ -87,16 +83,12 @@ fn show_file_by<E: EndianParse + Debug>(
 fn show_cuts<E: EndianParse>(rt: &HostRuntime, data: &[u8]) -> io::Result<()> {
     for length in 0..=data.len() {
         print!(rt; "\n    {length} ")?;
-        show_opening::<E>(rt, &data[..length])?;
+        match ElfBytes::<E>::minimal_parse(&data[..length]) {
+            Ok(file) => show_counts(rt, &file)?,
+            Err(error) => print!(rt; "{error:?}")?,
+        }
     }
     Ok(())
-}
-
-fn show_opening<E: EndianParse>(rt: &HostRuntime, data: &[u8]) -> io::Result<()> {
-    match ElfBytes::<E>::minimal_parse(data) {
-        Ok(file) => show_counts(rt, &file),
-        Err(error) => print!(rt; "{error:?}"),
-    }
 }
 
 /// What a method is called with, after the fields of the file's header are set.
@@ -153,47 +145,26 @@ fn show_counts<E: EndianParse>(rt: &HostRuntime, file: &ElfBytes<'_, E>) -> io::
 
 fn show_parts<E: EndianParse + Debug>(rt: &HostRuntime, file: &ElfBytes<'_, E>) -> io::Result<()> {
     print!(rt; "\n  {:?}\n  sections ", file.ehdr)?;
-    show_table(rt, file.section_headers())?;
+    show_table(rt, Ok(file.section_headers()))?;
     print!(rt; "\n  segments ")?;
-    show_table(rt, file.segments())
-}
-
-fn show_table<E: EndianParse, P: ParseAt + Debug + Drop>(
-    rt: &HostRuntime,
-    table: Option<ParsingTable<'_, E, P>>,
-) -> io::Result<()> {
-    match table {
-        Some(table) => show_items(rt, &table, table.len()),
-        None => print!(rt; "none"),
-    }
+    show_table(rt, Ok(file.segments()))
 }
 
 /// The names of the sections.
 fn show_names<E: EndianParse>(rt: &HostRuntime, file: &ElfBytes<'_, E>) -> io::Result<()> {
     match file.section_headers_with_strtab() {
-        Ok((Some(sections), Some(names))) => show_named(rt, &sections, &names),
+        Ok((Some(sections), Some(names))) => {
+            print!(rt; "of {}", sections.len())?;
+            for section in sections.iter() {
+                print!(rt; "; ")?;
+                show(rt, names.get(section.sh_name as usize))?;
+            }
+            Ok(())
+        }
         Ok((sections, names)) => {
             let (sections, names) = (sections.is_some(), names.is_some());
             print!(rt; "sections {sections} names {names}")
         }
         Err(error) => show_refusal(rt, error),
     }
-}
-
-fn show_named<E: EndianParse>(
-    rt: &HostRuntime,
-    sections: &SectionHeaderTable<'_, E>,
-    names: &StringTable<'_>,
-) -> io::Result<()> {
-    let length = sections.len();
-    print!(rt; "of {length}")?;
-    for section in sections.iter() {
-        show_name(rt, &section, names)?;
-    }
-    Ok(())
-}
-
-fn show_name(rt: &HostRuntime, section: &SectionHeader, names: &StringTable<'_>) -> io::Result<()> {
-    print!(rt; "; ")?;
-    show(rt, names.get(section.sh_name as usize))
 }

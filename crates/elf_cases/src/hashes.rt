@@ -1,8 +1,6 @@
 //! Hashes of names, and hash sections.
 use crate::row_words::{Words, field_of};
 use crate::shown::{show, show_refusal};
-use elf::endian::AnyEndian;
-use elf::file::Class;
 use elf::hash::{GnuHashHeader, GnuHashTable, SysVHashTable, gnu_hash, sysv_hash};
 use elf::string_table::StringTable;
 use elf::symbol::SymbolTable;
@@ -26,48 +24,18 @@ pub(crate) fn show_find(rt: &HostRuntime, words: &mut Words<'_>) -> io::Result<(
     let section = words.bytes(rt);
     let symbols = words.bytes(rt);
     let strings = words.bytes(rt);
-    let row = Row {
-        order,
-        class,
-        name: name.as_slice(),
-        section: section.as_slice(),
-        symbols: symbols.as_slice(),
-        strings: strings.as_slice(),
-    };
+    let symbols = SymbolTable::new(order, class, symbols.as_slice());
+    let strings = StringTable::new(strings.as_slice());
     if kind == "sysv" {
-        show_sysv(rt, row)
-    } else {
-        show_gnu(rt, row, words)
+        return match SysVHashTable::new(order, class, section.as_slice()) {
+            Ok(table) => show(rt, table.find(name.as_slice(), &symbols, &strings)),
+            Err(error) => show_refusal(rt, error),
+        };
     }
-}
-
-/// The arguments of a row for a hash section.
-#[derive(Clone, Copy)]
-struct Row<'a> {
-    order: AnyEndian,
-    class: Class,
-    name: &'a [u8],
-    section: &'a [u8],
-    symbols: &'a [u8],
-    strings: &'a [u8],
-}
-
-fn show_sysv(rt: &HostRuntime, row: Row<'_>) -> io::Result<()> {
-    let symbols = SymbolTable::new(row.order, row.class, row.symbols);
-    let strings = StringTable::new(row.strings);
-    match SysVHashTable::new(row.order, row.class, row.section) {
-        Ok(table) => show(rt, table.find(row.name, &symbols, &strings)),
-        Err(error) => show_refusal(rt, error),
-    }
-}
-
-fn show_gnu(rt: &HostRuntime, row: Row<'_>, words: &mut Words<'_>) -> io::Result<()> {
-    let symbols = SymbolTable::new(row.order, row.class, row.symbols);
-    let strings = StringTable::new(row.strings);
-    match GnuHashTable::new(row.order, row.class, row.section) {
+    match GnuHashTable::new(order, class, section.as_slice()) {
         Ok(mut table) => {
             set_fields(&mut table.hdr, words);
-            show(rt, table.find(row.name, &symbols, &strings))
+            show(rt, table.find(name.as_slice(), &symbols, &strings))
         }
         Err(error) => show_refusal(rt, error),
     }

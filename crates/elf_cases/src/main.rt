@@ -11,23 +11,34 @@
 //! built first costs much of the time of a check.
 #![tactic(auto)]
 
+mod addresses;
+mod archives;
+mod attributes;
+mod bindings;
+mod caches;
 mod callers;
 mod cases;
 mod checks;
 mod common;
+mod configuration;
+mod debug_links;
 mod ends;
 mod files;
 mod hashes;
+mod loaded;
 mod methods;
 mod names;
 mod notes;
 mod numbers;
 mod records;
+mod relr;
 mod row_words;
 mod rows;
+mod searches;
 mod shown;
 mod sources;
 mod strings;
+mod version_words;
 mod versions;
 
 use row_words::Words;
@@ -82,6 +93,28 @@ fn show_call(rt: &HostRuntime, words: &mut Words<'_>) -> io::Result<()> {
         "ends" => ends::show_ends(rt, words),
         "values" => names::show_names(rt, words),
         "text" => names::show_value(rt, words),
+        kind => show_tool(rt, kind, words),
+    }
+}
+
+/// What a call of the crates above `elf` answers, or one of an opened file.
+fn show_tool(rt: &HostRuntime, kind: &str, words: &mut Words<'_>) -> io::Result<()> {
+    match kind {
+        "addresses" => addresses::show_addresses(rt, words),
+        "archive" => archives::show_archive(rt, words),
+        "attributes" => attributes::show_attributes(rt, words),
+        "cache" => caches::show_cache(rt, words),
+        "candidates" => searches::show_candidates(rt, words),
+        "conf" => configuration::show_conf(rt, words),
+        "debug_alt_link" => debug_links::show_alt_link(rt, words),
+        "debug_link" => debug_links::show_link(rt, words),
+        "definition" => bindings::show_definition(rt, words),
+        "expand" => searches::show_expansion(rt, words),
+        "loaded" => loaded::show_loaded(rt, words),
+        "reference_kind" => bindings::show_kind(rt, words),
+        "relr" => relr::show_relr(rt, words),
+        "taken" => bindings::show_taken(rt, words),
+        "version_of" => bindings::show_version_of(rt, words),
         kind => files::show_file(rt, kind, words),
     }
 }

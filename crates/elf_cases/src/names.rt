@@ -67,28 +67,15 @@ pub(crate) fn show_value(rt: &HostRuntime, words: &mut Words<'_>) -> io::Result<
 }
 
 fn value_text(alloc: Global, words: &mut Words<'_>) -> Result<String, AllocError> {
-    let kind = words.word();
-    match kind {
-        "e_osabi" | "st_symtype" | "st_bind" | "st_vis" => byte_text(alloc, kind, words.number()),
+    match words.word() {
+        "e_osabi" => to_str::e_osabi_to_string(alloc, words.number()),
         "e_type" => to_str::e_type_to_string(alloc, words.number()),
         "e_machine" => to_str::e_machine_to_string(alloc, words.number()),
-        _ => word_text(alloc, kind, words.number()),
-    }
-}
-
-fn byte_text(alloc: Global, kind: &str, value: u8) -> Result<String, AllocError> {
-    match kind {
-        "e_osabi" => to_str::e_osabi_to_string(alloc, value),
-        "st_symtype" => to_str::st_symtype_to_string(alloc, value),
-        "st_bind" => to_str::st_bind_to_string(alloc, value),
-        _ => to_str::st_vis_to_string(alloc, value),
-    }
-}
-
-fn word_text(alloc: Global, kind: &str, value: u32) -> Result<String, AllocError> {
-    match kind {
-        "sh_type" => to_str::sh_type_to_string(alloc, value),
-        "p_type" => to_str::p_type_to_string(alloc, value),
-        _ => to_str::p_flags_to_string(alloc, value),
+        "sh_type" => to_str::sh_type_to_string(alloc, words.number()),
+        "p_type" => to_str::p_type_to_string(alloc, words.number()),
+        "p_flags" => to_str::p_flags_to_string(alloc, words.number()),
+        "st_symtype" => to_str::st_symtype_to_string(alloc, words.number()),
+        "st_bind" => to_str::st_bind_to_string(alloc, words.number()),
+        _ => to_str::st_vis_to_string(alloc, words.number()),
     }
 }

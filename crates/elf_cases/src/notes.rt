@@ -19,16 +19,11 @@ pub(crate) fn show_each<E: EndianParse>(
     notes: NoteIterator<'_, E>,
 ) -> io::Result<()> {
     for note in notes {
-        show_note(rt, &note)?;
-    }
-    Ok(())
-}
-
-fn show_note(rt: &HostRuntime, note: &Note<'_>) -> io::Result<()> {
-    print!(rt; "\n    {note:?}")?;
-    if let Note::Unknown(any) = note {
-        print!(rt; " ")?;
-        show(rt, any.name_str())?;
+        print!(rt; "\n    {note:?}")?;
+        if let Note::Unknown(any) = &note {
+            print!(rt; " ")?;
+            show(rt, any.name_str())?;
+        }
     }
     Ok(())
 }

@@ -1,7 +1,6 @@
 //! Records, and tables of them.
 use crate::row_words::Words;
 use crate::shown::{show, show_lines, show_refusal};
-use elf::ParseError;
 use elf::compression::CompressionHeader;
 use elf::dynamic::Dyn;
 use elf::endian::{AnyEndian, EndianParse};
@@ -58,12 +57,6 @@ fn show_kind(rt: &HostRuntime, kind: &str, row: Row<'_>) -> io::Result<()> {
         "Rela" => show_of::<Rela>(rt, row),
         "Dyn" => show_of::<Dyn>(rt, row),
         "CompressionHeader" => show_of::<CompressionHeader>(rt, row),
-        _ => show_small_kind(rt, kind, row),
-    }
-}
-
-fn show_small_kind(rt: &HostRuntime, kind: &str, row: Row<'_>) -> io::Result<()> {
-    match kind {
         "u32" => show_of::<u32>(rt, row),
         "u64" => show_of::<u64>(rt, row),
         "VersionIndex" => show_of::<VersionIndex>(rt, row),
@@ -79,40 +72,23 @@ fn show_small_kind(rt: &HostRuntime, kind: &str, row: Row<'_>) -> io::Result<()>
 }
 
 fn show_of<P: ParseAt + Debug + Drop>(rt: &HostRuntime, row: Row<'_>) -> io::Result<()> {
+    let table = ParsingTable::<'_, AnyEndian, P>::new(row.order, row.class, row.data);
     match row.operation {
-        "at" => show_at::<P>(rt, row),
-        "size" => show_size::<P>(rt, row),
-        word => {
-            let table = ParsingTable::<'_, AnyEndian, P>::new(row.order, row.class, row.data);
-            if word == "get" {
-                show_item(rt, &table, row.n)
-            } else {
-                show_items(rt, &table, row.n)
-            }
+        "at" => {
+            let mut offset = row.n;
+            show(rt, P::parse_at(row.order, row.class, &mut offset, row.data))?;
+            print!(rt; " offset {offset}")
         }
+        "size" => {
+            print!(rt; "{}; ", P::size_for(row.class))?;
+            show(rt, P::validate_entsize(row.class, row.n))
+        }
+        "get" => {
+            print!(rt; "of {} ", table.len())?;
+            show(rt, table.get(row.n))
+        }
+        _ => show_items(rt, &table, row.n),
     }
-}
-
-fn show_at<P: ParseAt + Debug + Drop>(rt: &HostRuntime, row: Row<'_>) -> io::Result<()> {
-    let mut offset = row.n;
-    show(rt, P::parse_at(row.order, row.class, &mut offset, row.data))?;
-    print!(rt; " offset {offset}")
-}
-
-fn show_size<P: ParseAt>(rt: &HostRuntime, row: Row<'_>) -> io::Result<()> {
-    let size = P::size_for(row.class);
-    print!(rt; "{size}; ")?;
-    show(rt, P::validate_entsize(row.class, row.n))
-}
-
-fn show_item<P: ParseAt + Debug + Drop>(
-    rt: &HostRuntime,
-    table: &ParsingTable<'_, AnyEndian, P>,
-    index: usize,
-) -> io::Result<()> {
-    let length = table.len();
-    print!(rt; "of {length} ")?;
-    show(rt, table.get(index))
 }
 
 /// How many records a table says that it has, and those that it gives.
@@ -135,44 +111,28 @@ pub(crate) fn show_parts(rt: &HostRuntime, words: &mut Words<'_>) -> io::Result<
     let data = words.bytes(rt);
     let data = data.as_slice();
     match kind {
-        "Symbol" => show_symbol(rt, Symbol::parse_at(order, class, &mut 0, data)),
-        "Dyn" => show_entry(rt, Dyn::parse_at(order, class, &mut 0, data)),
-        _ => show_index(rt, VersionIndex::parse_at(order, class, &mut 0, data)),
-    }
-}
-
-fn show_symbol(rt: &HostRuntime, answer: Result<Symbol, ParseError>) -> io::Result<()> {
-    match answer {
-        Ok(symbol) => {
-            let undefined = symbol.is_undefined();
-            let (kind, bind, vis) = (symbol.st_symtype(), symbol.st_bind(), symbol.st_vis());
-            print!(rt; "undefined {undefined} type {kind} bind {bind} vis {vis}")
-        }
-        Err(error) => show_refusal(rt, error),
-    }
-}
-
-fn show_entry(rt: &HostRuntime, answer: Result<Dyn, ParseError>) -> io::Result<()> {
-    match answer {
-        Ok(entry) => {
-            let (tag, value, address) = (entry.d_tag, entry.d_val(), entry.d_ptr());
-            print!(rt; "tag {tag} val {value} ptr {address}")
-        }
-        Err(error) => show_refusal(rt, error),
-    }
-}
-
-fn show_index(rt: &HostRuntime, answer: Result<VersionIndex, ParseError>) -> io::Result<()> {
-    match answer {
-        Ok(version) => {
-            let index = version.index();
-            let (local, global, hidden) = (
-                version.is_local(),
-                version.is_global(),
-                version.is_hidden(),
-            );
-            print!(rt; "index {index} local {local} global {global} hidden {hidden}")
-        }
-        Err(error) => show_refusal(rt, error),
+        "Symbol" => match Symbol::parse_at(order, class, &mut 0, data) {
+            Ok(symbol) => {
+                let undefined = symbol.is_undefined();
+                let (kind, bind, vis) = (symbol.st_symtype(), symbol.st_bind(), symbol.st_vis());
+                print!(rt; "undefined {undefined} type {kind} bind {bind} vis {vis}")
+            }
+            Err(error) => show_refusal(rt, error),
+        },
+        "Dyn" => match Dyn::parse_at(order, class, &mut 0, data) {
+            Ok(entry) => {
+                let (tag, value, address) = (entry.d_tag, entry.d_val(), entry.d_ptr());
+                print!(rt; "tag {tag} val {value} ptr {address}")
+            }
+            Err(error) => show_refusal(rt, error),
+        },
+        _ => match VersionIndex::parse_at(order, class, &mut 0, data) {
+            Ok(version) => {
+                let (index, local) = (version.index(), version.is_local());
+                let (global, hidden) = (version.is_global(), version.is_hidden());
+                print!(rt; "index {index} local {local} global {global} hidden {hidden}")
+            }
+            Err(error) => show_refusal(rt, error),
+        },
     }
 }

@@ -29,6 +29,11 @@ impl<'a> Words<'a> {
         word
     }
 
+    /// Whether no word is left.
+    pub(crate) fn is_over(&self) -> bool {
+        self.left.is_empty()
+    }
+
     /// All words that are left.
     pub(crate) fn rest(&mut self) -> SplitWhitespace<'a> {
         let left = self.left;

@@ -8,10 +8,7 @@ use std::io;
 pub(crate) fn show_string(rt: &HostRuntime, words: &mut Words<'_>) -> io::Result<()> {
     let offset = words.number();
     let data = words.bytes(rt);
-    show_both(rt, StringTable::new(data.as_slice()), offset)
-}
-
-fn show_both(rt: &HostRuntime, strings: StringTable<'_>, offset: usize) -> io::Result<()> {
+    let strings = StringTable::new(data.as_slice());
     show(rt, strings.get_raw(offset))?;
     print!(rt; "; ")?;
     show(rt, strings.get(offset))

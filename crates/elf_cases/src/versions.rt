@@ -3,13 +3,10 @@ ghost use Rattle.std.specs.Iterator.{IsFinite};
 
 use crate::row_words::Words;
 use crate::shown::{show, show_refusal};
+use crate::version_words::VersionBytes;
 use elf::ParseError;
-use elf::endian::{AnyEndian, EndianParse};
-use elf::file::Class;
-use elf::gnu_symver::{
-    SymbolDefinition, SymbolVersionTable, VerDefIterator, VerNeedIterator, VersionIndexTable,
-};
-use elf::string_table::StringTable;
+use elf::endian::AnyEndian;
+use elf::gnu_symver::{SymbolDefinition, VerDefIterator, VerNeedIterator};
 use std::fmt::Debug;
 use std::io;
 
@@ -23,24 +20,15 @@ pub(crate) fn show_linked(rt: &HostRuntime, words: &mut Words<'_>) -> io::Result
     let data = words.bytes(rt);
     let data = data.as_slice();
     if kind == "VerDef" {
-        show_definitions(rt, VerDefIterator::new(order, class, count, start, data))
+        for (record, names) in VerDefIterator::new(order, class, count, start, data) {
+            print!(rt; "\n    {record:?}")?;
+            show_each(rt, names)?;
+        }
     } else {
-        show_needs(rt, VerNeedIterator::new(order, class, count, start, data))
-    }
-}
-
-fn show_definitions(rt: &HostRuntime, records: VerDefIterator<'_, AnyEndian>) -> io::Result<()> {
-    for (record, names) in records {
-        print!(rt; "\n    {record:?}")?;
-        show_each(rt, names)?;
-    }
-    Ok(())
-}
-
-fn show_needs(rt: &HostRuntime, records: VerNeedIterator<'_, AnyEndian>) -> io::Result<()> {
-    for (record, versions) in records {
-        print!(rt; "\n    {record:?}")?;
-        show_each(rt, versions)?;
+        for (record, versions) in VerNeedIterator::new(order, class, count, start, data) {
+            print!(rt; "\n    {record:?}")?;
+            show_each(rt, versions)?;
+        }
     }
     Ok(())
 }
@@ -64,101 +52,27 @@ pub(crate) fn show_version(rt: &HostRuntime, words: &mut Words<'_>) -> io::Resul
     let order = words.order();
     let class = words.class();
     let symbol = words.number();
-    let indexes = words.bytes(rt);
-    let need_count = count_of(words);
-    let needs = words.bytes(rt);
-    let need_strings = words.bytes(rt);
-    let count = count_of(words);
-    let definitions = words.bytes(rt);
-    let strings = words.bytes(rt);
-    let table = SymbolVersionTable::new(
-        VersionIndexTable::new(order, class, indexes.as_slice()),
-        needs_of(
-            order,
-            class,
-            need_count,
-            needs.as_slice(),
-            need_strings.as_slice(),
-        ),
-        definitions_of(
-            order,
-            class,
-            count,
-            definitions.as_slice(),
-            strings.as_slice(),
-        ),
-    );
-    show_both(rt, &table, symbol)
-}
-
-fn count_of(words: &mut Words<'_>) -> Option<u64> {
-    match words.word() {
-        "-" => None,
-        count => Some(words.number_of(count)),
-    }
-}
-
-fn needs_of<'a>(
-    order: AnyEndian,
-    class: Class,
-    count: Option<u64>,
-    needs: &'a [u8],
-    strings: &'a [u8],
-) -> Option<(VerNeedIterator<'a, AnyEndian>, StringTable<'a>)> {
-    let needs = VerNeedIterator::new(order, class, count?, 0, needs);
-    Some((needs, StringTable::new(strings)))
-}
-
-fn definitions_of<'a>(
-    order: AnyEndian,
-    class: Class,
-    count: Option<u64>,
-    definitions: &'a [u8],
-    strings: &'a [u8],
-) -> Option<(VerDefIterator<'a, AnyEndian>, StringTable<'a>)> {
-    let definitions = VerDefIterator::new(order, class, count?, 0, definitions);
-    Some((definitions, StringTable::new(strings)))
-}
-
-fn show_both<E: EndianParse>(
-    rt: &HostRuntime,
-    table: &SymbolVersionTable<'_, E>,
-    symbol: usize,
-) -> io::Result<()> {
+    let bytes = VersionBytes::read(rt, order, class, words);
+    let table = bytes.table();
     show(rt, table.get_requirement(symbol))?;
     print!(rt; "; ")?;
     show_definition(rt, table.get_definition(symbol))
 }
 
-fn show_definition<E: EndianParse>(
+fn show_definition(
     rt: &HostRuntime,
-    answer: Result<Option<SymbolDefinition<'_, E>>, ParseError>,
+    answer: Result<Option<SymbolDefinition<'_, AnyEndian>>, ParseError>,
 ) -> io::Result<()> {
-    match answer {
-        Ok(Some(definition)) => show_named(rt, definition),
-        Ok(None) => print!(rt; "None"),
-        Err(error) => show_refusal(rt, error),
-    }
-}
-
-fn show_named<E: EndianParse>(
-    rt: &HostRuntime,
-    definition: SymbolDefinition<'_, E>,
-) -> io::Result<()> {
-    let SymbolDefinition {
-        hash,
-        flags,
-        names,
-        hidden,
-    } = definition;
+    let definition = match answer {
+        Ok(Some(definition)) => definition,
+        Ok(None) => return print!(rt; "None"),
+        Err(error) => return show_refusal(rt, error),
+    };
+    let (hash, flags, hidden) = (definition.hash, definition.flags, definition.hidden);
     print!(rt; "hash {hash} flags {flags} hidden {hidden}")?;
-    for name in names {
-        show_name(rt, name)?;
+    for name in definition.names {
+        print!(rt; " ")?;
+        show(rt, name)?;
     }
     Ok(())
-}
-
-fn show_name(rt: &HostRuntime, name: Result<&str, ParseError>) -> io::Result<()> {
-    print!(rt; " ")?;
-    show(rt, name)
 }

@@ -7,12 +7,12 @@ ghost use Rattle.elf_check.specs.FaultWalk.{checking, unchecked};
 ghost use Rattle.elf_check.specs.declared.faults.FileFault.{FileFault};
 
 use crate::faults::FileFault;
-use crate::listed::sections_are_listed;
 use crate::sections::names_in;
 use crate::walk::{OF_FILE, OF_SEGMENTS, Stage, Walk};
 use elf::ElfBytes;
 use elf::endian::EndianParse;
 use elf::gnu_symver::{Needed, VerDefIterator};
+use elf::readers::sections_are_listed;
 
 /// A walk over the faults of a file, in their order. Nothing is allocated.
 #[derive(Drop)]

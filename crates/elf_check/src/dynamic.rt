@@ -19,7 +19,7 @@ use elf::section::SectionHeader;
 use elf::string_table::StringTable;
 use elf::{ElfBytes, abi};
 use entries::entries_fault;
-pub(crate) use entries::{is_null, names_string};
+pub(crate) use entries::{has_null, is_null, names_string};
 
 // The strings of a section, if its range lies in the file.
 pub(crate) fn strings_in<'data, E: EndianParse>(

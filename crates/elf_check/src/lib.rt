@@ -7,7 +7,6 @@ mod checking;
 mod dynamic;
 pub mod faults;
 mod hashes;
-mod listed;
 pub mod notes;
 mod relocations;
 mod sections;
@@ -21,7 +20,6 @@ mod whole;
 
 pub use all::{all_faults, all_faults_in};
 pub use checking::{FaultWalk, fault_walk};
-pub use relocations::Relocation;
 pub use whole::{
     WholeDefinition, WholeDynamic, WholeFile, WholeNames, WholeRelocations, WholeSection,
     WholeSections, WholeStrings, WholeSymbols, WholeSymbolsIter, WholeVersion, WholeVersions,

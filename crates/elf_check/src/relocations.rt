@@ -1,5 +1,5 @@
 //! The check of relocations.
-ghost use Rattle.std.specs.Prelude.{◌≡◌, ◌<◌, ◌≤◌, ℕ, MatchOption, Ok};
+ghost use Rattle.std.specs.Prelude.{◌≡◌, ◌<◌, ◌≤◌, MatchOption, Ok};
 ghost use Rattle.elf.specs.Data.{content};
 ghost use Rattle.elf.specs.ElfBytes.{view};
 ghost use Rattle.elf.specs.ObjectFile.{object_file};
@@ -17,35 +17,10 @@ use elf::file::Class;
 use elf::headers::Headers;
 use elf::laws::tables::{PlainRecord, get_succeeds_below_len};
 use elf::parse::{ParseAt, ParsingTable};
-use elf::relocation::{Rel, Rela};
+use elf::relocation::Relocation;
 use elf::section::SectionHeader;
 use elf::symbol::Symbol;
 use elf::{ElfBytes, abi};
-
-/// A relocation, which names a symbol.
-pub trait Relocation: PlainRecord + Drop {
-    ghost symbol_of: { Self → ℕ };
-
-    /// The index of the symbol.
-    fn symbol(&self) -> u32
-        ensures { result ≡ symbol_of self.now };
-}
-
-impl Relocation for Rel {
-    ghost symbol_of = { λ r. r.r_sym };
-
-    fn symbol(&self) -> u32 {
-        self.r_sym
-    }
-}
-
-impl Relocation for Rela {
-    ghost symbol_of = { λ r. r.r_sym };
-
-    fn symbol(&self) -> u32 {
-        self.r_sym
-    }
-}
 
 // A record below the number of records.
 pub(crate) fn record_below<E: EndianParse, P: PlainRecord>(

@@ -12,7 +12,7 @@ ghost use Rattle.elf.specs.ObjectFile.{object_file};
 ghost use Rattle.elf_check.specs.AllFaults.{IsTrueByItself, SectionAt, SectionNames, SoundByItself};
 ghost use Rattle.elf_check.specs.Sections.{IsTrueOfContent, IsTrueOfSection, SoundContent, SoundSection};
 ghost use Rattle.elf_check.specs.Symbols.{HoldsSymbols, IsTrueOfSymbols, SoundSymbols};
-ghost use Rattle.elf_check.specs.Sections.{IsPlain, is_compressed, is_structural, name_in};
+ghost use Rattle.elf_check.specs.Sections.{IsPlain, is_structural, name_in};
 ghost use Rattle.elf_check.specs.Sections.{IsTrueOfUnnamed, SoundUnnamed};
 ghost use Rattle.elf_check.specs.inner.Walk.{IsFaultIfAny};
 
@@ -124,18 +124,11 @@ fn is_structural(shdr: &SectionHeader) -> bool
         || shdr.sh_type == abi::SHT_GNU_VERDEF
 }
 
-// Whether a section is compressed.
-fn is_compressed(shdr: &SectionHeader) -> bool
-    ensures { result ≡ is_compressed shdr.now }
-{
-    shdr.sh_flags & abi::SHF_COMPRESSED as u64 != 0
-}
-
 // Whether a section is not compressed, if its type forbids that.
 fn is_plain(shdr: &SectionHeader) -> bool
     ensures { IsTrue result ↔ IsPlain shdr.now }
 {
-    !is_structural(shdr) || !is_compressed(shdr)
+    !is_structural(shdr) || shdr.sh_flags & abi::SHF_COMPRESSED as u64 == 0
 }
 
 // What the content of a section lacks, by its type.

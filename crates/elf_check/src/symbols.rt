@@ -1,26 +1,16 @@
 //! The check of symbols.
-ghost use Rattle.std.specs.Prelude.{◌≡◌, ◌<◌, MatchOption, Ok};
+ghost use Rattle.std.specs.Prelude.{MatchOption};
 ghost use Rattle.elf_parts.specs.Hash.{symbol_at};
-ghost use Rattle.elf_records.specs.Table.{table_len, table_view};
-ghost use Rattle.elf_records.specs.Symbol.{symbol_reads};
+ghost use Rattle.elf_records.specs.Table.{table_view};
 ghost use Rattle.elf_check.specs.Symbols.{IsFirstOfTable, IsTrueOfSymbol, SoundSymbol};
 ghost use Rattle.elf_check.specs.Members.{AllSound};
 
 use crate::faults::SymbolFault;
+use crate::relocations::record_below;
 use elf::abi;
 use elf::endian::EndianParse;
-use elf::laws::tables::get_succeeds_below_len;
 use elf::string_table::TerminatedStrings;
 use elf::symbol::{Symbol, SymbolTable};
-
-// A symbol below the number of symbols.
-pub(crate) fn symbol_below<E: EndianParse>(symbols: &SymbolTable<'_, E>, index: usize) -> Symbol
-    requires { index < table_len symbol_reads (table_view symbols.now) }
-    ensures { symbol_at (table_view symbols.now) index ≡ Ok result }
-{
-    get_succeeds_below_len(symbols, index);
-    symbols.get_quickly(index).unwrap()
-}
 
 // What a symbol lacks.
 fn symbol_fault(
@@ -53,7 +43,7 @@ pub(crate) fn first_bad_symbol<E: EndianParse>(
         (λ bad. IsFirstOfTable sections table strings.now bad.0 bad.1) }
 {
     for index in 0..symbols.len() {
-        let symbol = symbol_below(symbols, index);
+        let symbol = record_below(symbols, index);
         match symbol_fault(&symbol, strings, sections) {
             Some(fault) => return Some((index, fault)),
             None => {}

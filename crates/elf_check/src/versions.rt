@@ -47,14 +47,18 @@ fn with_strings<'data, E: EndianParse>(
     Some((bytes, StringTable::new(strings)))
 }
 
-// What a section of needs lacks.
+// What the section of needs lacks, if there is one.
 fn needs_fault<E: EndianParse>(
     file: &ElfBytes<'_, E>,
-    shdr: &SectionHeader,
+    shdr: &Option<SectionHeader>,
 ) -> Option<VersionsFault>
     ensures { let whole = object_file E.little (view file.now) in
-        MatchOption result (SoundNeedsOf whole shdr.now) (IsTrueOfNeeds whole shdr.now) }
+        MatchOption result (IfSome shdr.now (SoundNeedsOf whole)) (λ fault. IsSomeAnd shdr.now (λ s. IsTrueOfNeeds
+        whole s fault)) }
 {
+    let Some(shdr) = shdr else {
+        return None;
+    };
     let Some((bytes, strings)) = with_strings(file, shdr) else {
         return Some(VersionsFault::NeedsUnreadable);
     };
@@ -72,14 +76,18 @@ fn needs_fault<E: EndianParse>(
     chain_fault(links, count, &strings).map(VersionsFault::FaultyNeeds)
 }
 
-// What a section of definitions lacks.
+// What the section of definitions lacks, if there is one.
 fn definitions_fault<E: EndianParse>(
     file: &ElfBytes<'_, E>,
-    shdr: &SectionHeader,
+    shdr: &Option<SectionHeader>,
 ) -> Option<VersionsFault>
     ensures { let whole = object_file E.little (view file.now) in
-        MatchOption result (SoundDefsOf whole shdr.now) (IsTrueOfDefs whole shdr.now) }
+        MatchOption result (IfSome shdr.now (SoundDefsOf whole)) (λ fault. IsSomeAnd shdr.now (λ s. IsTrueOfDefs
+        whole s fault)) }
 {
+    let Some(shdr) = shdr else {
+        return None;
+    };
     let Some((bytes, strings)) = with_strings(file, shdr) else {
         return Some(VersionsFault::DefinitionsUnreadable);
     };
@@ -95,36 +103,6 @@ fn definitions_fault<E: EndianParse>(
         return Some(VersionsFault::DefinitionsTooLong);
     }
     chain_fault(links, count, &strings).map(VersionsFault::FaultyDefinitions)
-}
-
-// What the section of needs lacks, if there is one.
-fn needs_fault_if<E: EndianParse>(
-    file: &ElfBytes<'_, E>,
-    shdr: &Option<SectionHeader>,
-) -> Option<VersionsFault>
-    ensures { let whole = object_file E.little (view file.now) in
-        MatchOption result (IfSome shdr.now (SoundNeedsOf whole)) (λ fault. IsSomeAnd shdr.now (λ s. IsTrueOfNeeds
-        whole s fault)) }
-{
-    match shdr {
-        Some(shdr) => needs_fault(file, shdr),
-        None => None,
-    }
-}
-
-// What the section of definitions lacks, if there is one.
-fn definitions_fault_if<E: EndianParse>(
-    file: &ElfBytes<'_, E>,
-    shdr: &Option<SectionHeader>,
-) -> Option<VersionsFault>
-    ensures { let whole = object_file E.little (view file.now) in
-        MatchOption result (IfSome shdr.now (SoundDefsOf whole)) (λ fault. IsSomeAnd shdr.now (λ s. IsTrueOfDefs
-        whole s fault)) }
-{
-    match shdr {
-        Some(shdr) => definitions_fault(file, shdr),
-        None => None,
-    }
 }
 
 // What the version indexes lack. A version whose index has a place is looked up without a walk.
@@ -162,9 +140,9 @@ fn is_whole<E: EndianParse>(file: &ElfBytes<'_, E>, shdr: &SectionHeader) -> boo
 fn knows_versions<E: EndianParse>(file: &ElfBytes<'_, E>, chosen: &VersionSections) -> bool
     ensures { IsTrue result ↔ KnowsVersions (object_file E.little (view file.now)) chosen.now }
 {
-    match needs_fault_if(file, &chosen.needs) {
+    match needs_fault(file, &chosen.needs) {
         Some(_) => false,
-        None => definitions_fault_if(file, &chosen.definitions).is_none(),
+        None => definitions_fault(file, &chosen.definitions).is_none(),
     }
 }
 
@@ -200,7 +178,7 @@ pub(crate) fn needs_fault_in<E: EndianParse>(file: &ElfBytes<'_, E>) -> Option<F
 {
     let chosen = file.version_sections();
     match &chosen.indexes {
-        Some(_) => needs_fault_if(file, &chosen.needs).map(FileFault::Versions),
+        Some(_) => needs_fault(file, &chosen.needs).map(FileFault::Versions),
         None => None,
     }
 }
@@ -211,7 +189,7 @@ pub(crate) fn definitions_fault_in<E: EndianParse>(file: &ElfBytes<'_, E>) -> Op
 {
     let chosen = file.version_sections();
     match &chosen.indexes {
-        Some(_) => definitions_fault_if(file, &chosen.definitions).map(FileFault::Versions),
+        Some(_) => definitions_fault(file, &chosen.definitions).map(FileFault::Versions),
         None => None,
     }
 }

@@ -15,10 +15,10 @@ ghost use Rattle.elf_check.specs.Sound.{SoundFile};
 ghost use Rattle.elf_check.specs.Symbols.{SoundSymbolTable};
 ghost use Rattle.elf_check.specs.inner.SoundProps.{HasNameTable, HasNameTable-prop, SoundFile-prop};
 
-use crate::listed::sections_are_listed;
 use crate::segments::{WholeLoads, WholeSegments};
 use elf::endian::EndianParse;
 use elf::headers::Headers;
+use elf::readers::sections_are_listed;
 use elf::string_table::StringTable;
 use elf::symbol::SymbolTable;
 use elf::{ElfBytes, abi};

@@ -6,4 +6,3 @@ pub mod Relr
 pub mod dynamic_view
 -- the lines of the configuration of libraries
 pub mod Conf
-pub mod KnownLines

@@ -8,4 +8,3 @@ pub mod Symbols
 pub mod Relocations
 pub mod Versions
 pub mod Laws
-pub mod Known

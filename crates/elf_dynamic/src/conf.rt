@@ -8,8 +8,6 @@ ghost use Rattle.elf_dynamic.specs.Conf.{without_first, without_last};
 
 use std::alloc::{AllocError, Global};
 
-pub mod worked;
-
 /// What a line of the configuration names.
 #[derive(Debug, Clone, Copy)]
 pub enum ConfLine<'a> {

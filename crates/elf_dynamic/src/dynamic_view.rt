@@ -14,9 +14,8 @@ mod segments;
 mod string_table;
 mod symbol_table;
 mod version_table;
-pub mod worked;
 
-pub use entries::{TagValues, dynamic_table, has_tag, required, value, values};
+pub use entries::{TagValues, dynamic_table, has_tag, required, value, value_in, values};
 pub use error::DynamicError;
 pub use hashes::{gnu_hash, sysv_hash};
 pub use relocations::{PltRelocations, address_size, plt_relocations, relas, relr_bytes, rels};

@@ -4,7 +4,7 @@
 //! table is the address of such a word. An odd word is a bitmap: each of its bits except bit 0 stands for a word of
 //! memory, and a bit that is 1 marks a relocation. The words of a bitmap follow, in order, the word at the address
 //! before it, or the words of the bitmap before it.
-ghost use Rattle.std.specs.Prelude.{◌≡◌, ◌*◌, ◌≤◌, ◌<◌, ◌∷◌, ◌++◌, [], length, IfErr, IfNone, IfOk, List};
+ghost use Rattle.std.specs.Prelude.{◌≡◌, ◌*◌, ◌≤◌, ◌<◌, ◌∷◌, ◌++◌, [], length, IfErr, IfNone, IfOk, List, refl, true};
 ghost use Rattle.std.specs.Iterator.{YieldsFirst, item_count};
 ghost use Rattle.std.specs.List.{cons_option};
 ghost use Rattle.elf_records.specs.Number.{ok_map};
@@ -22,8 +22,6 @@ use elf::parse::{ParseAt, ParseError, ParsingIterator, ParsingTable};
 use elf::reader::{Reader, content_of_type};
 use elf::section::SectionHeader;
 use elf_records::parse::parse_by_class;
-
-pub mod worked;
 
 /// The type of a section of packed relative relocations (gABI, chapter "Sections").
 pub const SHT_RELR: u32 = 19;
@@ -46,7 +44,13 @@ pub struct Relr(pub u64);
 pub type RelrTable<'data, E> = ParsingTable<'data, E, Relr>;
 
 impl ParseAt for Relr {
+    const SHAPE: (usize, usize, bool) = (4, 8, true);
+
+    ghost SHAPE = { (4, 8, true) };
+
     ghost reads = { relr_reads };
+
+    ghost shape_law = { refl };
 
     #[tactic(auto, unfolding(elf_records::specs::Record::numbers_at, elf_records::specs::Record::numbers_end))]
     #[inline(always)]
@@ -58,23 +62,11 @@ impl ParseAt for Relr {
     ) -> Result<Self, ParseError> {
         Ok(Relr(parse_by_class(endian, class, offset, data)?))
     }
-
-    fn size_for(class: Class) -> usize {
-        match class {
-            Class::ELF32 => 4,
-            Class::ELF64 => 8,
-        }
-    }
-
-    fn is_local() -> bool {
-        true
-    }
 }
 
 impl PlainRecord for Relr {
     ghost use Rattle.elf_records.specs.inner.RecordLaws.{wherever_by};
     ghost use Rattle.elf_dynamic.specs.Relr.{relr_layout};
-    ghost use Rattle.std.specs.Prelude.{refl};
 
     ghost wherever = { wherever_by relr_layout refl };
 }

@@ -2,6 +2,4 @@
 pub mod Cache
 pub mod Search
 pub mod Tree
-pub mod KnownObjects
-pub mod KnownCaches
 pub mod inner

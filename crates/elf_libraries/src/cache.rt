@@ -5,7 +5,7 @@
 //! Of the entries for some processors only those for subfolders of `glibc-hwcaps` are read, and not the level that such a
 //! library itself needs. Two names are the same if their bytes are; glibc also ignores zeros before a number in a name. A
 //! file that gives the path of an entry is not looked for.
-ghost use Rattle.std.specs.Prelude.{◌≡◌, ◌==◌, drop, map};
+ghost use Rattle.std.specs.Prelude.{◌≡◌, ◌==◌, drop, map, refl, true};
 ghost use Rattle.std.specs.List.{find, list_any};
 ghost use Rattle.std.specs.Option.{option_map};
 ghost use Rattle.elf_records.specs.Endian.{any_is_little};
@@ -25,8 +25,6 @@ use elf_records::file::Class;
 use elf_records::parse::{ParseAt, ParseError, ParsingTable, get_bytes};
 use elf_records::string_table::{StringTable, TerminatedStrings};
 use thiserror::Error;
-
-pub mod worked;
 
 // The first bytes of a cache, and of one of the older format.
 const NEW_MAGIC: &[u8] = b"glibc-ld.so.cache1.1";
@@ -103,7 +101,13 @@ pub struct CacheEntry {
 impl ParseAt for CacheEntry {
     ghost use Rattle.elf_libraries.specs.Cache.{entry_reads};
 
+    const SHAPE: (usize, usize, bool) = (ENTRY_SIZE, ENTRY_SIZE, true);
+
+    ghost SHAPE = { (24, 24, true) };
+
     ghost reads = { entry_reads };
+
+    ghost shape_law = { refl };
 
     #[tactic(auto, unfolding(elf_records::specs::Record::numbers_at, elf_records::specs::Record::numbers_end))]
     fn parse_at<E: EndianParse>(
@@ -119,14 +123,6 @@ impl ParseAt for CacheEntry {
             osversion: endian.parse_u32_at(offset, data)?,
             hwcap: endian.parse_u64_at(offset, data)?,
         })
-    }
-
-    fn size_for(_class: Class) -> usize {
-        ENTRY_SIZE
-    }
-
-    fn is_local() -> bool {
-        true
     }
 }
 
@@ -146,7 +142,13 @@ pub struct ExtensionSection {
 impl ParseAt for ExtensionSection {
     ghost use Rattle.elf_libraries.specs.Cache.{section_reads};
 
+    const SHAPE: (usize, usize, bool) = (SECTION_SIZE, SECTION_SIZE, true);
+
+    ghost SHAPE = { (16, 16, true) };
+
     ghost reads = { section_reads };
+
+    ghost shape_law = { refl };
 
     #[tactic(auto, unfolding(elf_records::specs::Record::numbers_at, elf_records::specs::Record::numbers_end))]
     fn parse_at<E: EndianParse>(
@@ -161,14 +163,6 @@ impl ParseAt for ExtensionSection {
             offset: endian.parse_u32_at(offset, data)?,
             size: endian.parse_u32_at(offset, data)?,
         })
-    }
-
-    fn size_for(_class: Class) -> usize {
-        SECTION_SIZE
-    }
-
-    fn is_local() -> bool {
-        true
     }
 }
 

@@ -2,8 +2,6 @@
 //!
 //! `search` has the places where a library is searched for, and `tree` what a program loads, in order. `cache` reads the
 //! linker's cache of libraries. The names of the libraries that a file needs come from `elf_linking`.
-//!
-//! `search::worked` and `cache::worked` have definitions at known values.
 #![tactic(auto)]
 
 pub mod cache;

@@ -4,18 +4,16 @@
 //! (`/etc/ld.so.cache`) has for the name, and the usual folders. Before each folder come its subfolders of `glibc-hwcaps`
 //! for the processor. For an object with the flag `DF_1_NODEFLIB` the usual folders and what the cache has in them do not
 //! count. Preloaded libraries are not read, nor the subfolders without `glibc-hwcaps` that glibc had before 2.37.
-ghost use Rattle.std.specs.Prelude.{◌≡◌, ◌∷◌, ◌++◌, ◌<◌, [], IfOk, OnOk, drop, filter, length, map};
+ghost use Rattle.std.specs.Prelude.{◌≡◌, ◌++◌, ◌<◌, IfOk, OnOk, drop, filter, length, map};
 ghost use Rattle.std.specs.Option.{option_map, option_to_list};
 ghost use Rattle.std.specs.List.{flat_map, slice_split};
 ghost use Rattle.std.specs.Vec.{vec_items};
 ghost use Rattle.elf_libraries.specs.Search.{all_rpath_folders, cached_at, candidates, excluded_folders, expansion};
 ghost use Rattle.elf_libraries.specs.Search.{expansion_after, folders, folders_view};
-ghost use Rattle.elf_libraries.specs.Search.{folders_if, folders_in, if_outside, in_hwcap, is_below, is_folder_outside};
+ghost use Rattle.elf_libraries.specs.Search.{folders_if, folders_in, in_hwcap, is_below, is_folder_outside};
 ghost use Rattle.elf_libraries.specs.Search.{is_name_byte, is_outside, joined_path, object_view, others_view};
 ghost use Rattle.elf_libraries.specs.Search.{path_view, paths_of, places, places_view, program_folder, rpath_folders};
 ghost use Rattle.elf_libraries.specs.Search.{separates, sequence, sequence_length, tokens_in, tokens_view, with_hwcaps};
-
-pub mod worked;
 
 use crate::cache::{LibraryFlags, LinkerCache};
 use std::alloc::{AllocError, Global};
@@ -423,38 +421,7 @@ fn is_outside(excluded: &[&[u8]], path: &[u8]) -> bool
     true
 }
 
-// The path, if there is one and it is below none of these folders.
-fn if_outside<'a>(excluded: &[&[u8]], path: Option<&'a [u8]>) -> Option<&'a [u8]>
-    ensures { path_view result ≡ if_outside (folders_view excluded.now) (path_view path.entry) }
-{
-    match path {
-        Some(path) => if is_outside(excluded, path) {
-            Some(path)
-        } else {
-            None
-        },
-        None => None,
-    }
-}
-
-// Adds a folder to others, if it is none of the excluded ones, nor below one.
-fn add_outside(
-    alloc: Global,
-    excluded: &[&[u8]],
-    folder: &[u8],
-    outside: &mut Vec<Vec<u8>>,
-) -> Result<(), AllocError>
-    ensures { OnOk result (map vec_items outside.new.items ≡ map vec_items outside.old.items
-        ++ filter (is_folder_outside (folders_view excluded.now)) (folder.now ∷ [])) }
-{
-    let path = joined_path(alloc, folder, b"")?;
-    if is_outside(excluded, &path) {
-        outside.push(folder.to_vec(alloc)?)?;
-    }
-    Ok(())
-}
-
-// The same of all these folders.
+// Adds those of these folders to others that are none of the excluded ones, nor below one.
 fn add_all_outside(
     alloc: Global,
     excluded: &[&[u8]],
@@ -465,7 +432,9 @@ fn add_all_outside(
         ++ filter (is_folder_outside (folders_view excluded.now)) (folders_view folders.now)) }
 {
     for folder in folders {
-        add_outside(alloc, excluded, folder, outside)?;
+        if is_outside(excluded, &joined_path(alloc, folder, b"")?) {
+            outside.push(folder.to_vec(alloc)?)?;
+        }
     }
     Ok(())
 }
@@ -525,11 +494,16 @@ impl<'a> SearchPlaces<'a> {
     pub fn cached(&self, name: &[u8]) -> Option<&'a [u8]>
         ensures { path_view result ≡ cached_at (places_view self.now) name.now }
     {
-        match self.cache {
-            Some(cache) => {
-                if_outside(self.excluded, cache.lookup(&self.flags, self.hwcaps, name))
-            }
-            None => None,
+        let Some(cache) = self.cache else {
+            return None;
+        };
+        let Some(path) = cache.lookup(&self.flags, self.hwcaps, name) else {
+            return None;
+        };
+        if is_outside(self.excluded, path) {
+            Some(path)
+        } else {
+            None
         }
     }
 }

@@ -9,7 +9,7 @@
 //! the program's class, byte order and machine; others are passed over, even those at which the dynamic linker stops. Where
 //! its section headers cannot be read, a file is read through its segments, as the dynamic linker reads all files. Two
 //! paths lead to one file if they are the same, or if the files of the system tell so (`Identity`).
-ghost use Rattle.std.specs.Prelude.{◌≡◌, ◌<◌, ◌++◌, ◌∷◌, [], ℕ, List, Some, None, if◌then◌else◌, ◌==◌, length, map};
+ghost use Rattle.std.specs.Prelude.{◌≡◌, ◌<◌, ◌++◌, ◌∷◌, [], ℕ, List, Some, None, length, map};
 ghost use Rattle.std.specs.Prelude.{IfOk, IfSome, Ok, OnOk, position, slice_get, unwrap_or};
 ghost use Rattle.std.specs.Option.{option_map};
 ghost use Rattle.std.specs.Vec.{vec_items};
@@ -29,7 +29,7 @@ ghost use Rattle.elf_libraries.specs.Tree.{Found, fitting, folder_of, found_in, 
 ghost use Rattle.elf_libraries.specs.Tree.{add, done, expanded, if_filtee, in_order, load, load_all, named_by, step, started};
 ghost use Rattle.elf_libraries.specs.Tree.{known, last_slash, loader_at, loaders_at, no_names, place_of, places_at, places_in};
 ghost use Rattle.elf_libraries.specs.Tree.{names_of as names_of_entry, put_before, with_file, with_libraries, without_bytes};
-ghost use Rattle.elf_libraries.specs.Tree.{identity_of, is_object, linked_file, program_entry, waits, with_identity};
+ghost use Rattle.elf_libraries.specs.Tree.{identity_of, linked_file, program_entry, waits, with_identity};
 ghost use Rattle.elf_libraries.specs.Tree.{same_class, same_file, same_kind, same_order, searching, searching_at};
 ghost use Rattle.elf_libraries.specs.inner.LoadedNames.{AreNamesOf};
 ghost use Rattle.elf_libraries.specs.inner.Loading.{loading_view, named_in};
@@ -233,20 +233,15 @@ fn open_bytes(bytes: &[u8]) -> Result<ElfBytes<'_, AnyEndian>, ParseError>
     }
 }
 
-// The place of a slash, or else the last one before.
-fn slash_or(byte: u8, place: usize, last: Option<usize>) -> Option<usize>
-    ensures { result ≡ (if byte == 47 then Some place else last) }
-{
-    if byte == b'/' { Some(place) } else { last }
-}
-
 /// Returns the place of the last slash of a path, if it has one.
 pub fn last_slash(path: &[u8]) -> Option<usize>
     ensures { result ≡ last_slash 0 None path.now }
 {
     let mut last = None;
     for (place, byte) in path.iter().enumerate() {
-        last = slash_or(*byte, place, last);
+        if *byte == b'/' {
+            last = Some(place);
+        }
     }
     last
 }
@@ -636,37 +631,25 @@ fn identity_of(file: &Option<LoadedFile>) -> Option<Identity>
     }
 }
 
-// Whether the object has the name, or is the file.
-fn is_object(object: &Object, name: &[u8], identity: Option<Identity>) -> bool
-    ensures { result ≡ is_object name.now identity (entry_view object.now) }
-{
-    has_name(object, name) || is_same_file(identity, identity_of(&object.file))
-}
-
 // The place of the first object that has the name, or is the file.
 fn place_of(objects: &[Object], name: &[u8], identity: Option<Identity>) -> Option<usize>
     ensures { result ≡ place_of 0 name.now identity (map entry_view objects.now) }
 {
     for (place, object) in objects.iter().enumerate() {
-        if is_object(object, name, identity) {
+        if has_name(object, name) || is_same_file(identity, identity_of(&object.file)) {
             return Some(place);
         }
     }
     None
 }
 
-// Whether the slot is that of an object whose libraries were not loaded.
-fn waits(slot: &Slot, place: usize) -> bool
-    ensures { result ≡ waits place slot.now }
-{
-    slot.place == place && !slot.is_done
-}
-
 // How many slots are before the one of an object whose libraries were not loaded.
 fn distance(slots: &[Slot], place: usize) -> Option<usize>
     ensures { result ≡ position (waits place) slots.now }
 {
-    slots.iter().position(|slot| waits(slot, place))
+    slots
+        .iter()
+        .position(|slot| slot.place == place && !slot.is_done)
 }
 
 // The names that the object at a place gives, with the folder that it is in; copies, so that objects can be added.

@@ -19,7 +19,7 @@ use Rattle.elf_dynamic.specs.dynamic_view.Entries.{entries_in}
 use Rattle.elf_dynamic.proofs.Following.{found_follows, read_follows, then_follows}
 use Rattle.elf_linking.specs.Missing.{loaded_part}
 use Rattle.elf_linking.specs.Needed.{IsAnswered, MissesNames, Named, NamesFollow, entries_of, missing_of}
-use Rattle.elf_linking.specs.Needed.{names, names_by, names_in, names_kind, read_error, string_part, strings_by}
+use Rattle.elf_linking.specs.Needed.{names, names_by, names_in, names_kind, read_error, string_part, string_range, strings_at, strings_by}
 use Rattle.elf_linking.specs.Readings.{IsReading}
 use Rattle.elf_linking.specs.declared.needed.NamesError.{NamesError}
 use Rattle.elf_linking.specs.declared.needed.NamesError.TheVariants.{Memory, Missing, Name, NoAddress, NoSize}
@@ -33,7 +33,8 @@ module _ (whole : ObjectFile) (range : Ranges) (is_missing : ℕ × ℕ → Bool
 
   pub strings_follow : (entries : List Dyn) → NamesFollow is_missing (strings_by whole entries) (strings_by part entries)
   strings_follow entries =
-      then_follows Missing is_missing (string_part whole.segments entries) (string_part whole.segments entries) _ _ (inl refl) (λ p. read_follows is_missing (read_error Whole) (read_error Partial) (λ e. refl) (whole.range p.0 p.1) (range p.0 p.1) (each p.0 p.1))
+      then_follows Missing is_missing (string_range entries) (string_range entries) (strings_at whole) (strings_at part) (inl refl) (λ r.
+      then_follows Missing is_missing (string_part whole.segments r) (string_part whole.segments r) _ _ (inl refl) (λ p. read_follows is_missing (read_error Whole) (read_error Partial) (λ e. refl) (whole.range p.0 p.1) (range p.0 p.1) (each p.0 p.1)))
 
   pub names_follow : NamesFollow is_missing (names whole) (names part)
   names_follow =

@@ -3,7 +3,6 @@
 use Rattle.std.specs.Prelude.{◌≡◌, ◌⊎◌, ℕ, ◌==◌, ◌||◌, not, Bool, false, if◌then◌else◌}
 use Rattle.std.specs.Prelude.{bit_and, filter, ℤ, pos, List, [], ◌∷◌, map, unwrap_or}
 use Rattle.std.specs.Prelude.{Option, Some, None, Result, Ok, Err, IfSome, ok_or}
-use Rattle.std.specs.List.{find}
 use Rattle.std.specs.Option.{option_map}
 use Rattle.std.specs.Result.{result_ok}
 use Rattle.elf_abi.specs.Values.{dt_needed, dt_rpath, dt_runpath, dt_soname, dt_strsz, dt_strtab}
@@ -20,7 +19,7 @@ use Rattle.elf.specs.Headers.{if_found}
 use Rattle.elf.specs.ObjectFile.{ErrorOf, Extent, FileOf, Partial, Whole, err_map}
 use Rattle.elf.specs.declared.read_error.ReadError.TheVariants.{Parse, NotLoaded as NotRead}
 use Rattle.elf_dynamic.specs.dynamic_view.Laws.{FollowsBy}
-use Rattle.elf_dynamic.specs.dynamic_view.Entries.{entries_in}
+use Rattle.elf_dynamic.specs.dynamic_view.Entries.{entries_in, value_of}
 use Rattle.elf_dynamic.specs.dynamic_view.Segments.{part_of}
 use Rattle.elf_linking.specs.declared.needed.Library.{Library}
 use Rattle.elf_linking.specs.declared.needed.Name.{Name}
@@ -38,33 +37,27 @@ read_error Whole e = Read e
 read_error Partial (Parse e) = Read e
 read_error Partial (NotRead range) = Missing range
 
--- ---- the entries
-
--- the first entry with a tag
-abbrev pub first_entry : ℤ → List Dyn → Option Dyn
-first_entry tag entries = find (has_tag tag) entries
-
--- ---- the string table: DT_STRTAB gives its address in memory and DT_STRSZ its size
+-- ---- the string table: DT_STRTAB gives its address in memory and DT_STRSZ its size. Of several entries with one of
+-- these tags the last counts, and so it is of each tag but those of libraries.
 
 -- the address and the size that the entries give
 abbrev pub string_range : List Dyn → Result (ℕ × ℕ) NamesError
 string_range entries =
-    ok_or (first_entry dt_strtab entries) NoAddress >>= λ start. ok_or (first_entry dt_strsz entries) NoSize >>= λ size.
-    Ok (d_un_view start, d_un_view size)
+    ok_or (value_of dt_strtab entries) NoAddress >>= λ start. ok_or (value_of dt_strsz entries) NoSize >>= λ size.
+    Ok (start, size)
 
 -- the range of the string table in the file, by its start and its size
-abbrev pub string_part : List ProgramHeader → List Dyn → Result (ℕ × ℕ) NamesError
-string_part segments entries =
-    string_range entries >>= λ range. err_map (λ _. NotLoaded range.0) (part_of segments range.0 range.1)
+abbrev pub string_part : List ProgramHeader → ℕ × ℕ → Result (ℕ × ℕ) NamesError
+string_part segments range = err_map (λ _. NotLoaded range.0) (part_of segments range.0 range.1)
 
 -- ---- the names: the number of an entry is the offset of its string in the string table
 
-abbrev pub name_of : List ℕ → Dyn → Result (List ℕ) NamesError
-name_of strings entry = err_map Unnamed (string_at strings (d_un_view entry))
+abbrev pub name_of : List ℕ → ℕ → Result (List ℕ) NamesError
+name_of strings offset = err_map Unnamed (string_at strings offset)
 
--- the name of the first entry with a tag
-abbrev pub first_name : List ℕ → ℤ → List Dyn → Result (Option (List ℕ)) NamesError
-first_name strings tag entries = if_found (name_of strings) (first_entry tag entries)
+-- the name that a tag gives
+abbrev pub name_with : List ℕ → ℤ → List Dyn → Result (Option (List ℕ)) NamesError
+name_with strings tag entries = if_found (name_of strings) (value_of tag entries)
 
 -- ---- the libraries that are loaded with the file: those that it needs, and its filtees, in which symbols are looked up
 -- before the file itself (Solaris; GNU C library). An auxiliary filtee may be missing.
@@ -88,7 +81,7 @@ pub record Wanted : Type 0 where
   pub name : List ℕ
 
 abbrev pub library_of : List ℕ → Dyn → Result Wanted NamesError
-library_of strings entry = ok_map (λ name. record { role = role_of entry; name = name }) (name_of strings entry)
+library_of strings entry = ok_map (λ name. record { role = role_of entry; name = name }) (name_of strings (d_un_view entry))
 
 -- the libraries of entries, in order, or the error of the first whose name cannot be read
 abbrev pub libraries_of_all : List ℕ → List Dyn → Result (List Wanted) NamesError
@@ -107,9 +100,8 @@ dt_flags_1 = pos 0x6ffffffb
 abbrev pub df_1_nodeflib : ℕ
 df_1_nodeflib = 0x800
 
-abbrev pub has_nodeflib : Option Dyn → Bool
-has_nodeflib None = false
-has_nodeflib (Some entry) = not (bit_and (d_un_view entry) df_1_nodeflib == 0)
+abbrev pub has_nodeflib : List Dyn → Bool
+has_nodeflib entries = not (bit_and (unwrap_or (value_of dt_flags_1 entries) 0) df_1_nodeflib == 0)
 
 -- ---- all of these
 
@@ -123,9 +115,9 @@ pub record Named : Type 0 where
 
 abbrev pub names_in : List ℕ → List Dyn → Result Named NamesError
 names_in strings entries =
-    first_name strings dt_soname entries >>= λ soname. libraries_of strings entries >>= λ libraries.
-    first_name strings dt_runpath entries >>= λ runpath. first_name strings dt_rpath entries >>= λ rpath.
-    let nodeflib = has_nodeflib (first_entry dt_flags_1 entries) in
+    name_with strings dt_soname entries >>= λ soname. libraries_of strings entries >>= λ libraries.
+    name_with strings dt_runpath entries >>= λ runpath. name_with strings dt_rpath entries >>= λ rpath.
+    let nodeflib = has_nodeflib entries in
     Ok (record { soname = soname; libraries = libraries; runpath = runpath; rpath = rpath; nodeflib = nodeflib })
 
 -- the bytes of a name in the string table; none where no string is at its offset
@@ -160,10 +152,14 @@ IsGiven shown answer (Err e) = answer ≡ Err e
 abbrev pub entries_of : {x : Extent} → FileOf x → Result (Option (List Dyn)) NamesError
 entries_of {x} file = err_map (read_error x) (ok_map (option_map entries_in) (dynamic file))
 
--- the string table of the entries
+-- the string table with this address and this size
+abbrev pub strings_at : {x : Extent} → FileOf x → ℕ × ℕ → Result (List ℕ) NamesError
+strings_at {x} file range =
+    string_part file.segments range >>= λ part. err_map (read_error x) (file.range part.0 part.1)
+
+-- that of the entries
 abbrev pub strings_by : {x : Extent} → FileOf x → List Dyn → Result (List ℕ) NamesError
-strings_by {x} file entries =
-    string_part file.segments entries >>= λ part. err_map (read_error x) (file.range part.0 part.1)
+strings_by file entries = string_range entries >>= strings_at file
 
 abbrev pub names_by : {x : Extent} → FileOf x → List Dyn → Result Named NamesError
 names_by file entries = strings_by file entries >>= λ strings. names_in strings entries

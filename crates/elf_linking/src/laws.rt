@@ -13,14 +13,11 @@ use crate::bindings::uses::SymbolUses;
 use crate::needed::Name;
 use crate::{BindingFault, ReferenceKind, Unreadable, Version, Wanted};
 
-/// Two versions that cannot be read are equal exactly if their symbols are.
-pub fn equal_unreadables(a: &Unreadable, b: &Unreadable)
-    ensures { IsTrue (⟦<Unreadable as PartialEq>⟧.eq a.now b.now) ↔ (a.now ≡ b.now) }
-{}
-
-/// Two faults of a look-up are equal exactly if their objects and their symbols are.
-pub fn equal_binding_faults(a: &BindingFault, b: &BindingFault)
-    ensures { IsTrue (⟦<BindingFault as PartialEq>⟧.eq a.now b.now) ↔ (a.now ≡ b.now) }
+/// Two versions that cannot be read are equal exactly if their symbols are, and two faults of a look-up exactly if their
+/// objects and their symbols are.
+pub fn equal_faults()
+    ensures unreadable { (a b : Unreadable) → IsTrue (⟦<Unreadable as PartialEq>⟧.eq a b) ↔ (a ≡ b) }
+    ensures binding { (a b : BindingFault) → IsTrue (⟦<BindingFault as PartialEq>⟧.eq a b) ↔ (a ≡ b) }
 {}
 
 /// The clone of a result, or of what a reference requests, is the same value, and cloning it cannot fail.

@@ -12,11 +12,11 @@ ghost use Rattle.elf_reading.specs.Refusals.{Kind};
 ghost use Rattle.elf_dynamic.specs.dynamic_view.Entries.{entries_in};
 ghost use Rattle.elf_linking.specs.Missing.{LoadsMissing, loaded_part};
 ghost use Rattle.elf_linking.specs.Needed.{IsAnswered, IsGiven, MissesNames};
-ghost use Rattle.elf_linking.specs.Needed.{first_entry, first_name, has_nodeflib, is_library};
+ghost use Rattle.elf_linking.specs.Needed.{has_nodeflib, is_library};
 ghost use Rattle.elf_linking.specs.Needed.{libraries_of, library_of, library_view, missing_of};
-ghost use Rattle.elf_linking.specs.Needed.{name_bytes, name_of, names, names_by, names_in, names_kind, names_view};
-ghost use Rattle.elf_linking.specs.Needed.{read_error, role_of};
-ghost use Rattle.elf_linking.specs.Needed.{string_part, string_range, strings_by};
+ghost use Rattle.elf_linking.specs.Needed.{name_bytes, name_of, name_with, names, names_by, names_in, names_kind};
+ghost use Rattle.elf_linking.specs.Needed.{names_view, read_error, role_of};
+ghost use Rattle.elf_linking.specs.Needed.{string_range, strings_at, strings_by};
 ghost use Rattle.elf_linking.specs.Readings.{LeavesCopy, ReadsFile};
 ghost use Rattle.elf_linking.specs.declared.needed.NamesError.TheVariants.{Memory as IsMemory};
 
@@ -25,7 +25,7 @@ use elf::endian::EndianParse;
 use elf::reader::{Reader, dynamic};
 use elf::string_table::{StringTable, TerminatedStrings};
 use elf::{ElfStream, ParseError, ReadError, StreamSource, abi};
-use elf_dynamic::dynamic_view::{has_tag, part_of};
+use elf_dynamic::dynamic_view::{has_tag, part_of, value_in};
 use std::alloc::{AllocError, AllocFailed, Allocator, Global};
 use thiserror::Error;
 
@@ -64,14 +64,14 @@ pub struct Library {
 #[derive(Debug, Drop)]
 pub struct Names {
     strings: Vec<u8>,
-    /// The file's own name, by its first entry `DT_SONAME`.
+    /// The file's own name, by its last entry `DT_SONAME`.
     pub soname: Option<Name>,
     /// The libraries that are loaded with it, by its entries `DT_NEEDED`, `DT_AUXILIARY` and `DT_FILTER`, in order.
     pub libraries: Vec<Library>,
-    /// The search paths of libraries, by its first entry `DT_RUNPATH` and by its first entry `DT_RPATH`.
+    /// The search paths of libraries, by its last entry `DT_RUNPATH` and by its last entry `DT_RPATH`.
     pub runpath: Option<Name>,
     pub rpath: Option<Name>,
-    /// Whether the usual folders do not count, by the flag `DF_1_NODEFLIB` of its first entry `DT_FLAGS_1`.
+    /// Whether the usual folders do not count, by the flag `DF_1_NODEFLIB` of its last entry `DT_FLAGS_1`.
     pub nodeflib: bool,
 }
 
@@ -169,51 +169,46 @@ pub fn entries_in<E: EndianParse>(
         .collect(alloc)
 }
 
-// The first entry with a tag.
-fn first_entry(entries: &[Dyn], tag: i64) -> Option<&Dyn>
-    ensures { option_map (λ entry. entry.now) result ≡ first_entry tag entries.now }
-{
-    entries.iter().find(|entry| has_tag(entry, tag))
-}
-
 // The address of the string table, and its size.
 fn string_range(entries: &[Dyn]) -> Result<(u64, u64), NamesError>
     ensures value { result ≡ string_range entries.now }
     ensures plain { IsGiven (λ range. range) (string_range entries.now) result }
 {
-    let Some(start) = first_entry(entries, abi::DT_STRTAB) else {
+    let Some(address) = value_in(entries, abi::DT_STRTAB) else {
         return Err(NamesError::NoAddress);
     };
-    let Some(length) = first_entry(entries, abi::DT_STRSZ) else {
+    let Some(size) = value_in(entries, abi::DT_STRSZ) else {
         return Err(NamesError::NoSize);
     };
-    Ok((start.d_ptr(), length.d_val()))
+    Ok((address, size))
 }
 
-/// Returns the range of the string table of the entries in the file, by its start and its size. Their address is one of
-/// memory, and the segments of type `PT_LOAD` say which bytes of the file are loaded there.
+/// Returns the string table with an address and a size. The address is one of memory, and the segments of type `PT_LOAD`
+/// say which bytes of the file are loaded there.
 ///
-/// Errors, in order: `NoAddress` and `NoSize` if no entry gives the address or the size of the string table;
-/// `NotLoaded` if no segment of type `PT_LOAD` holds it.
-pub fn string_part<E: EndianParse, R: Reader<E>>(
-    file: &R,
-    entries: &[Dyn],
-) -> Result<(u64, u64), NamesError>
-    ensures value { result ≡ string_part (R.file file.now).segments entries.now }
-    ensures plain { IsGiven (λ part. part) (string_part (R.file file.now).segments entries.now) result }
+/// Errors, in order: `NotLoaded` if no segment of type `PT_LOAD` holds it; `Read` if the bytes cannot be read, or
+/// `Missing` if they are not loaded.
+pub fn strings_at<'f, E: EndianParse, R: Reader<E>>(
+    file: &'f R,
+    address: u64,
+    size: u64,
+) -> Result<&'f [u8], NamesError>
+    ensures value { ok_map (λ bytes. bytes.now) result
+        ≡ strings_at (loaded (R.file file.now) (R.ranges file.now)) (address, size) }
+    ensures plain { IsAnswered (λ bytes. bytes.now)
+        (strings_at (loaded (R.file file.now) (R.ranges file.now)) (address, size)) result }
 {
-    let (address, size) = match string_range(entries) {
-        Ok(range) => range,
-        Err(error) => return Err(error),
+    let Ok((start, length)) = part_of(file, address, size) else {
+        return Err(NamesError::NotLoaded(address));
     };
-    match part_of(file, address, size) {
-        Ok(part) => Ok(part),
-        Err(_) => Err(NamesError::NotLoaded(address)),
+    match file.range(start, length) {
+        Ok(bytes) => Ok(bytes),
+        Err(error) => Err(NamesError::from(error)),
     }
 }
 
-/// Returns the string table of the dynamic entries of a file. The errors are those of `string_part`, then `Read` if the
-/// bytes cannot be read, or `Missing` if they are not loaded.
+/// Returns the string table of the dynamic entries of a file. The errors are `NoAddress` and `NoSize` if no entry gives
+/// its address or its size, then those of `strings_at`.
 pub fn strings_of<'f, E: EndianParse, R: Reader<E>>(
     file: &'f R,
     entries: &[Dyn],
@@ -223,43 +218,40 @@ pub fn strings_of<'f, E: EndianParse, R: Reader<E>>(
     ensures plain { IsAnswered (λ bytes. bytes.now)
         (strings_by (loaded (R.file file.now) (R.ranges file.now)) entries.now) result }
 {
-    let (start, size) = match string_part(file, entries) {
-        Ok(part) => part,
-        Err(error) => return Err(error),
-    };
-    match file.range(start, size) {
-        Ok(bytes) => Ok(bytes),
-        Err(error) => Err(NamesError::from(error)),
+    match string_range(entries) {
+        Ok((address, size)) => strings_at(file, address, size),
+        Err(error) => Err(error),
     }
 }
 
-// The string that an entry names. Comparing it with the empty name gives the error, and reads at most one byte of it.
-fn name_of(strings: &TerminatedStrings<'_>, entry: &Dyn) -> Result<Name, NamesError>
-    ensures { ok_map (name_bytes strings.now) result ≡ name_of strings.now entry.now }
+// The string at an offset. Comparing it with the empty name gives the error, and reads at most one byte of it.
+fn name_of(strings: &TerminatedStrings<'_>, offset: u64) -> Result<Name, NamesError>
+    ensures { ok_map (name_bytes strings.now) result ≡ name_of strings.now offset }
 {
-    let start = entry.d_val() as usize;
+    let start = offset as usize;
     match strings.is(start, &[]) {
         Ok(_) => Ok(Name { start }),
         Err(error) => Err(NamesError::Name(error)),
     }
 }
 
-// The string that the first entry with a tag names.
-fn first_name(
+// The string that a tag gives.
+fn name_with(
     strings: &TerminatedStrings<'_>,
     entries: &[Dyn],
     tag: i64,
 ) -> Result<Option<Name>, NamesError>
-    ensures { ok_map (option_map (name_bytes strings.now)) result ≡ first_name strings.now tag entries.now }
+    ensures { ok_map (option_map (name_bytes strings.now)) result ≡ name_with strings.now tag entries.now }
 {
-    match first_entry(entries, tag) {
-        Some(entry) => name_of(strings, entry).map(Some),
+    match value_in(entries, tag) {
+        Some(offset) => name_of(strings, offset).map(Some),
         None => Ok(None),
     }
 }
 
-// Whether the entry names a library.
-fn is_library(entry: &Dyn) -> bool
+/// Returns whether the entry names a library that is loaded with the file: its tag is `DT_NEEDED`, `DT_AUXILIARY` or
+/// `DT_FILTER`.
+pub fn is_library(entry: &Dyn) -> bool
     ensures { result ≡ is_library entry.now }
 {
     has_tag(entry, abi::DT_NEEDED) || has_tag(entry, DT_AUXILIARY) || has_tag(entry, DT_FILTER)
@@ -280,7 +272,7 @@ fn role_of(entry: &Dyn) -> Role
 fn library_of(strings: &TerminatedStrings<'_>, entry: &Dyn) -> Result<Library, NamesError>
     ensures { ok_map (library_view strings.now) result ≡ library_of strings.now entry.now }
 {
-    let name = name_of(strings, entry)?;
+    let name = name_of(strings, entry.d_val())?;
     Ok(Library {
         role: role_of(entry),
         name,
@@ -305,14 +297,11 @@ fn libraries_of(
     Ok(libraries)
 }
 
-// Whether the flag is set in an entry `DT_FLAGS_1` that there may not be.
-fn has_nodeflib(flags: Option<&Dyn>) -> bool
-    ensures { result ≡ has_nodeflib (option_map (λ entry. entry.now) flags.entry) }
+// Whether the flag is set.
+fn has_nodeflib(entries: &[Dyn]) -> bool
+    ensures { result ≡ has_nodeflib entries.now }
 {
-    match flags {
-        Some(entry) => entry.d_val() & abi::DF_1_NODEFLIB as u64 != 0,
-        None => false,
-    }
+    value_in(entries, abi::DT_FLAGS_1).unwrap_or(0) & abi::DF_1_NODEFLIB as u64 != 0
 }
 
 // The names that the entries give in a string table, with a copy of it.
@@ -320,17 +309,17 @@ fn names_in(alloc: Global, table: &[u8], entries: &[Dyn]) -> Result<Names, Names
     ensures { IsGiven names_view (names_in table.now entries.now) result }
 {
     let strings = TerminatedStrings::new(&StringTable::new(table));
-    let soname = first_name(&strings, entries, abi::DT_SONAME)?;
+    let soname = name_with(&strings, entries, abi::DT_SONAME)?;
     let libraries = libraries_of(alloc, &strings, entries)?;
-    let runpath = first_name(&strings, entries, abi::DT_RUNPATH)?;
-    let rpath = first_name(&strings, entries, abi::DT_RPATH)?;
+    let runpath = name_with(&strings, entries, abi::DT_RUNPATH)?;
+    let rpath = name_with(&strings, entries, abi::DT_RPATH)?;
     Ok(Names {
         strings: Vec::from_slice(alloc, table)?,
         soname,
         libraries,
         runpath,
         rpath,
-        nodeflib: has_nodeflib(first_entry(entries, abi::DT_FLAGS_1)),
+        nodeflib: has_nodeflib(entries),
     })
 }
 
@@ -373,8 +362,9 @@ fn names_by<E: EndianParse, R: Reader<E>>(
 }
 
 /// Returns the soname of a file, the libraries that are loaded with it, its search paths and the flag `DF_1_NODEFLIB`, or
-/// `None` if it has no dynamic entries. The string table is found by its address, as the dynamic linker finds it, so no section header is needed.
-/// Of a stream it reads what is loaded; `read_dynamic_names` loads the rest.
+/// `None` if it has no dynamic entries. Of several entries with a tag that only one should have the last counts, as for
+/// the dynamic linker. The string table is found by its address, as the dynamic linker finds it, so no section header is
+/// needed. Of a stream it reads what is loaded; `read_dynamic_names` loads the rest.
 ///
 /// Errors, in order: `Read` if the dynamic entries cannot be read; `NoAddress` and `NoSize` if no entry gives the
 /// address or the size of the string table; `NotLoaded` if no segment of type `PT_LOAD` holds it; `Read` if its bytes

@@ -1,5 +1,6 @@
-//! Looks a name up in an ordered list of objects, as a dynamic linker does: the first object that has the name
-//! decides.
+//! Looks a name up in an ordered list of objects: the first object that has the name decides, also where its symbol is
+//! undefined, as a SysV section may index it. The look-ups of the dynamic linker, `resolver::definition` and `bind`, pass
+//! over such a symbol.
 //!
 //! An object is given by its checked hash table, so a look-up returns no error and misses no indexed symbol.
 //! Nothing is allocated.

@@ -95,28 +95,8 @@ fn if_named<'data, E: EndianParse>(
     }
 }
 
-// The error of a word that cannot be read.
-#[tactic(auto, unfolding(crate::specs::Hash::word_at))]
-fn refused_word<E: EndianParse>(words: &U32Table<'_, E>, index: usize) -> Found
-    ensures { result ≡ ok_map (λ _. None) (word_at (table_view words.now) index) }
-{
-    words.get(index)?;
-    Ok(None)
-}
-
-// The error of a symbol or a name that cannot be read.
-fn refused_symbol<E: EndianParse>(
-    symtab: &SymbolTable<'_, E>,
-    strings: &TerminatedStrings<'_>,
-    index: usize,
-) -> Found
-    ensures { result ≡ ok_map (λ _. None) (named_symbol (table_view symtab.now) strings.now index) }
-{
-    named_symbol(symtab, strings, index)?;
-    Ok(None)
-}
-
 // The error of a read that failed.
+#[tactic(auto, unfolding(crate::specs::Hash::word_at))]
 #[inline(never)]
 fn refused<E: EndianParse>(
     buckets: &U32Table<'_, E>,
@@ -129,8 +109,15 @@ fn refused<E: EndianParse>(
         refusal }
 {
     match refusal {
-        Refusal::BucketAt(bucket) => refused_word(buckets, bucket),
-        Refusal::ChainAt(place) => refused_word(chains, place),
-        Refusal::SymbolAt(index) => refused_symbol(symtab, strings, index),
+        Refusal::BucketAt(bucket) => {
+            buckets.get(bucket)?;
+        }
+        Refusal::ChainAt(place) => {
+            chains.get(place)?;
+        }
+        Refusal::SymbolAt(index) => {
+            named_symbol(symtab, strings, index)?;
+        }
     }
+    Ok(None)
 }

@@ -1,5 +1,5 @@
 //! Notes (gABI, chapter "Program Header", "Note Section").
-ghost use Rattle.std.specs.Prelude.{◌≡◌, ◌≤◌, ◌<◌, ◌^◌, ◌+◌, length, OnOk};
+ghost use Rattle.std.specs.Prelude.{◌≡◌, ◌≤◌, ◌<◌, ◌^◌, ◌+◌, length, OnOk, refl, true};
 ghost use Rattle.std.specs.Iterator.{YieldsFirstBy, item_count};
 ghost use Rattle.elf_parts.specs.Note.{aligned_offset, content_of, is_gnu, note_and_next_view, note_at, note_view};
 ghost use Rattle.elf_parts.specs.Note.{notes_in};
@@ -67,7 +67,13 @@ struct NoteHeader {
 impl ParseAt for NoteHeader {
     ghost use Rattle.elf_parts.specs.Note.{note_header_reads};
 
+    const SHAPE: (usize, usize, bool) = (12, 12, true);
+
+    ghost SHAPE = { (12, 12, true) };
+
     ghost reads = { note_header_reads };
+
+    ghost shape_law = { refl };
 
     #[tactic(auto, unfolding(elf_records::specs::Record::numbers_at, elf_records::specs::Record::numbers_end))]
     #[inline(always)]
@@ -83,20 +89,18 @@ impl ParseAt for NoteHeader {
             n_type: endian.parse_u32_at(offset, data)?,
         })
     }
-
-    fn size_for(_class: Class) -> usize {
-        12
-    }
-
-    fn is_local() -> bool {
-        true
-    }
 }
 
 impl ParseAt for NoteGnuAbiTag {
     ghost use Rattle.elf_parts.specs.Note.{abi_tag_reads};
 
+    const SHAPE: (usize, usize, bool) = (16, 16, true);
+
+    ghost SHAPE = { (16, 16, true) };
+
     ghost reads = { abi_tag_reads };
+
+    ghost shape_law = { refl };
 
     #[tactic(auto, unfolding(elf_records::specs::Record::numbers_at, elf_records::specs::Record::numbers_end))]
     fn parse_at<E: EndianParse>(
@@ -111,14 +115,6 @@ impl ParseAt for NoteGnuAbiTag {
             minor: endian.parse_u32_at(offset, data)?,
             subminor: endian.parse_u32_at(offset, data)?,
         })
-    }
-
-    fn size_for(_class: Class) -> usize {
-        16
-    }
-
-    fn is_local() -> bool {
-        true
     }
 }
 

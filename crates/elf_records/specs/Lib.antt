@@ -23,7 +23,8 @@ pub mod Compression
 pub mod Table
 -- strings that end in a 0 byte
 pub mod StringTable
--- what a clone is
+-- what equality is, and what a clone is
+pub mod Equality
 pub mod Clones
 -- what only implementations and private functions cite
 pub mod inner

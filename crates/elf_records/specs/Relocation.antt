@@ -1,5 +1,5 @@
 -- The field tables of relocations, without and with an addend (gABI, chapter "Relocation").
-use Rattle.std.specs.Prelude.{ℕ, ◌/◌, ◌%◌, ◌^◌, List, [], ◌∷◌, slice_index, refl}
+use Rattle.std.specs.Prelude.{ℕ, ◌/◌, ◌%◌, ◌^◌, List, [], ◌∷◌, Some, None, slice_index, refl}
 use Rattle.elf_records.specs.Class.{address_size}
 use Rattle.elf_records.specs.Number.{signed_number}
 use Rattle.elf_records.specs.Record.{Field, field, Layout, RecordType}
@@ -8,6 +8,7 @@ use Rattle.elf_records.specs.declared.file.Class.{Class}
 use Rattle.elf_records.specs.declared.file.Class.TheVariants.{ELF32, ELF64}
 use Rattle.elf_records.specs.declared.relocation.Rel.{Rel}
 use Rattle.elf_records.specs.declared.relocation.Rela.{Rela}
+use Rattle.elf_records.specs.declared.relocation.RelocationFields.{RelocationFields}
 
 -- the index of the symbol and the type of the relocation share one number, r_info
 abbrev pub sym_of_info : Class → ℕ → ℕ
@@ -70,3 +71,11 @@ rela_layout = record { fields = rela_fields; make = rela }
 
 abbrev pub rela_reads : RecordType Rela
 rela_reads = by_layout rela_layout refl
+
+-- ---- with or without an addend
+
+abbrev pub fields_of_rel : Rel → RelocationFields
+fields_of_rel r = record { r_offset = r.r_offset; r_sym = r.r_sym; r_type = r.r_type; r_addend = None }
+
+abbrev pub fields_of_rela : Rela → RelocationFields
+fields_of_rela r = record { r_offset = r.r_offset; r_sym = r.r_sym; r_type = r.r_type; r_addend = Some r.r_addend }

@@ -1,4 +1,6 @@
 //! Headers of compressed sections (gABI, chapter "Sections", "Section Compression").
+ghost use Rattle.std.specs.Prelude.{refl, true};
+
 use crate::endian::EndianParse;
 use crate::file::Class;
 use crate::parse::{ParseAt, ParseError};
@@ -34,7 +36,13 @@ pub struct CompressionHeader {
 impl ParseAt for CompressionHeader {
     ghost use Rattle.elf_records.specs.Compression.{compression_header_reads};
 
+    const SHAPE: (usize, usize, bool) = (12, 24, true);
+
+    ghost SHAPE = { (12, 24, true) };
+
     ghost reads = { compression_header_reads };
+
+    ghost shape_law = { refl };
 
     #[tactic(auto, unfolding(crate::specs::Record::numbers_at, crate::specs::Record::numbers_end))]
     fn parse_at<E: EndianParse>(
@@ -67,16 +75,5 @@ impl ParseAt for CompressionHeader {
                 })
             }
         }
-    }
-
-    fn size_for(class: Class) -> usize {
-        match class {
-            Class::ELF32 => 12,
-            Class::ELF64 => 24,
-        }
-    }
-
-    fn is_local() -> bool {
-        true
     }
 }

@@ -1,6 +1,6 @@
 //! Dynamic entries, by which a file tells the dynamic linker what it needs, and tables of them (gABI, chapter "Dynamic
 //! Section").
-ghost use Rattle.std.specs.Prelude.{◌≡◌, [], ◌∷◌};
+ghost use Rattle.std.specs.Prelude.{◌≡◌, [], ◌∷◌, refl, true};
 ghost use Rattle.elf_records.specs.Dynamic.{d_un_view, dyn_entry};
 
 use crate::endian::EndianParse;
@@ -73,7 +73,13 @@ fn dyn_64(d_tag: u64, d_un: u64) -> Dyn
 impl ParseAt for Dyn {
     ghost use Rattle.elf_records.specs.Dynamic.{dyn_reads};
 
+    const SHAPE: (usize, usize, bool) = (8, 16, true);
+
+    ghost SHAPE = { (8, 16, true) };
+
     ghost reads = { dyn_reads };
+
+    ghost shape_law = { refl };
 
     #[tactic(auto, unfolding(crate::specs::Record::numbers_at, crate::specs::Record::numbers_end))]
     #[inline(always)]
@@ -95,16 +101,5 @@ impl ParseAt for Dyn {
                 Ok(dyn_64(d_tag, d_un))
             }
         }
-    }
-
-    fn size_for(class: Class) -> usize {
-        match class {
-            Class::ELF32 => 8,
-            Class::ELF64 => 16,
-        }
-    }
-
-    fn is_local() -> bool {
-        true
     }
 }

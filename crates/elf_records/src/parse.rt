@@ -1,5 +1,6 @@
 //! The error type of the library, records that are read at an offset, and tables of records.
-ghost use Rattle.std.specs.Prelude.{◌≡◌, ◌+◌, ◌≤◌, if◌then◌else◌, ◌==◌, length, true, IfOk, OnOk};
+ghost use Rattle.std.specs.Prelude.{◌≡◌, ◌+◌, ◌≤◌, if◌then◌else◌, ◌==◌, ℕ, Bool, length, IfOk, OnOk};
+ghost use Rattle.elf_records.specs.declared.file.Class.TheVariants.{ELF32, ELF64};
 ghost use Rattle.elf_records.specs.Class.{address_size};
 ghost use Rattle.elf_records.specs.Number.{bytes_at, moved_by, number_at, ok_map};
 ghost use Rattle.elf_records.specs.Record.{RecordType};
@@ -128,6 +129,13 @@ impl From<AllocError> for ParseError {
 /// within the data and moves the offset by the size, and its value depends only on those bytes, the order and the
 /// class.
 pub trait ParseAt: Sized {
+    /// How many bytes a record has in a 32-bit file, how many in a 64-bit one, and whether these bytes alone decide
+    /// whether it can be read, wherever they lie. If so, tables read the record from a slice of its own bytes, with one
+    /// check of the bounds for all its fields. A record with a field table is such a record.
+    const SHAPE: (usize, usize, bool);
+
+    ghost SHAPE: { ℕ × ℕ × Bool };
+
     // How a record is read: its size, what is read at an offset, and the laws of these.
     ghost reads: { RecordType Self };
 
@@ -148,15 +156,12 @@ pub trait ParseAt: Sized {
 
     /// Returns the size of a record in bytes.
     fn size_for(class: Class) -> usize
-        ensures { result ≡ reads.size class };
-
-    /// Returns whether the bytes of a record alone decide whether it can be read, wherever they lie. If so, tables read
-    /// the record from a slice of its own bytes, with one check of the bounds for all its fields. A record with a
-    /// field table may return `true`; `false` is right for every record.
-    fn is_local() -> bool
-        ensures { result ≡ true → reads.local ≡ true }
+        ensures { result ≡ reads.size class }
     {
-        false
+        match class {
+            Class::ELF32 => Self::SHAPE.0,
+            Class::ELF64 => Self::SHAPE.1,
+        }
     }
 
     /// Returns the entry size that a header states, in bytes, if it is the size of the record. Otherwise returns
@@ -172,6 +177,8 @@ pub trait ParseAt: Sized {
             Err(ParseError::BadEntsize((entsize as u64, expected as u64)))
         }
     }
+
+    ghost shape_law: { SHAPE ≡ (reads.size ELF32, reads.size ELF64, reads.local) };
 }
 
 /// Returns `size` bytes of the data, starting at `start`. The errors are `IntegerOverflow` if their end does not fit 64

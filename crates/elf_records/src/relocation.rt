@@ -1,9 +1,10 @@
 //! Relocations, without and with an addend, and iterators over them (gABI, chapter "Relocation").
-ghost use Rattle.std.specs.Prelude.{◌≡◌, [], ◌∷◌};
+ghost use Rattle.std.specs.Prelude.{◌≡◌, [], ◌∷◌, ℕ, refl, true};
 ghost use Rattle.elf_records.specs.Relocation.{rel, rela, sym_of_info, type_of_info};
 
 use crate::endian::EndianParse;
 use crate::file::Class;
+use crate::laws::tables::PlainRecord;
 use crate::parse::{ParseAt, ParseError, ParsingIterator};
 
 /// An iterator over relocations without addends.
@@ -62,6 +63,75 @@ pub struct Rela {
     pub r_sym: u32,
     pub r_type: u32,
     pub r_addend: i64,
+}
+
+/// The fields of a relocation. Without `r_addend` the addend stands in the place to change.
+#[derive(Clone, Copy, Debug, PartialEq, Eq)]
+pub struct RelocationFields {
+    pub r_offset: u64,
+    pub r_sym: u32,
+    pub r_type: u32,
+    pub r_addend: Option<i64>,
+}
+
+/// A relocation, without or with an addend.
+pub trait Relocation: PlainRecord + Drop {
+    ghost use Rattle.elf_records.specs.declared.relocation.RelocationFields.{RelocationFields};
+
+    ghost symbol_of: { Self → ℕ };
+
+    ghost fields: { Self → RelocationFields };
+
+    /// Returns its fields.
+    fn fields(&self) -> RelocationFields
+        ensures { result ≡ fields self.now };
+
+    /// Returns the index of its symbol.
+    final fn symbol(&self) -> u32
+        ensures { result ≡ symbol_of self.now }
+    {
+        self.fields().r_sym
+    }
+
+    ghost symbol_law: { (r : Self) → (fields r).r_sym ≡ symbol_of r };
+}
+
+impl Relocation for Rel {
+    ghost use Rattle.elf_records.specs.Relocation.{fields_of_rel};
+
+    ghost symbol_of = { λ r. r.r_sym };
+
+    ghost fields = { fields_of_rel };
+
+    ghost symbol_law = { λ _. refl };
+
+    fn fields(&self) -> RelocationFields {
+        RelocationFields {
+            r_offset: self.r_offset,
+            r_sym: self.r_sym,
+            r_type: self.r_type,
+            r_addend: None,
+        }
+    }
+}
+
+impl Relocation for Rela {
+    ghost use Rattle.elf_records.specs.Relocation.{fields_of_rela};
+
+    ghost symbol_of = { λ r. r.r_sym };
+
+    ghost fields = { fields_of_rela };
+
+    ghost symbol_law = { λ _. refl };
+
+    fn fields(&self) -> RelocationFields {
+        RelocationFields {
+            r_offset: self.r_offset,
+            r_sym: self.r_sym,
+            r_type: self.r_type,
+            r_addend: Some(self.r_addend),
+        }
+    }
 }
 
 // The index of the symbol and the type, which share one number of an ELF32 record.
@@ -130,7 +200,13 @@ fn rela_64(r_offset: u64, r_info: u64, r_addend: u64) -> Rela
 impl ParseAt for Rel {
     ghost use Rattle.elf_records.specs.Relocation.{rel_reads};
 
+    const SHAPE: (usize, usize, bool) = (8, 16, true);
+
+    ghost SHAPE = { (8, 16, true) };
+
     ghost reads = { rel_reads };
+
+    ghost shape_law = { refl };
 
     #[tactic(auto, unfolding(crate::specs::Record::numbers_at, crate::specs::Record::numbers_end))]
     #[inline(always)]
@@ -153,23 +229,18 @@ impl ParseAt for Rel {
             }
         }
     }
-
-    fn size_for(class: Class) -> usize {
-        match class {
-            Class::ELF32 => 8,
-            Class::ELF64 => 16,
-        }
-    }
-
-    fn is_local() -> bool {
-        true
-    }
 }
 
 impl ParseAt for Rela {
     ghost use Rattle.elf_records.specs.Relocation.{rela_reads};
 
+    const SHAPE: (usize, usize, bool) = (12, 24, true);
+
+    ghost SHAPE = { (12, 24, true) };
+
     ghost reads = { rela_reads };
+
+    ghost shape_law = { refl };
 
     #[tactic(auto, unfolding(crate::specs::Record::numbers_at, crate::specs::Record::numbers_end))]
     #[inline(always)]
@@ -193,16 +264,5 @@ impl ParseAt for Rela {
                 Ok(rela_64(r_offset, r_info, r_addend))
             }
         }
-    }
-
-    fn size_for(class: Class) -> usize {
-        match class {
-            Class::ELF32 => 12,
-            Class::ELF64 => 24,
-        }
-    }
-
-    fn is_local() -> bool {
-        true
     }
 }

@@ -1,5 +1,5 @@
 //! Section headers and tables of them (gABI, chapter "Sections").
-ghost use Rattle.std.specs.Prelude.{◌≡◌, ◌+◌, OnOk};
+ghost use Rattle.std.specs.Prelude.{◌≡◌, ◌+◌, OnOk, refl, true};
 ghost use Rattle.elf_records.specs.Number.{ok_map};
 ghost use Rattle.elf_records.specs.inner.Part.{back_fields, five, front_fields, part_at, part_end};
 ghost use Rattle.elf_records.specs.inner.Running.{width_of};
@@ -62,7 +62,13 @@ pub struct SectionHeader {
 impl ParseAt for SectionHeader {
     ghost use Rattle.elf_records.specs.Section.{section_header_reads};
 
+    const SHAPE: (usize, usize, bool) = (40, 64, true);
+
+    ghost SHAPE = { (40, 64, true) };
+
     ghost reads = { section_header_reads };
+
+    ghost shape_law = { refl };
 
     #[inline(always)]
     fn parse_at<E: EndianParse>(
@@ -89,17 +95,6 @@ impl ParseAt for SectionHeader {
             sh_addralign,
             sh_entsize,
         })
-    }
-
-    fn size_for(class: Class) -> usize {
-        match class {
-            Class::ELF32 => 40,
-            Class::ELF64 => 64,
-        }
-    }
-
-    fn is_local() -> bool {
-        true
     }
 }
 

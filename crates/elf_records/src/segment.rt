@@ -1,5 +1,5 @@
 //! Program headers (gABI, chapter "Program Header").
-ghost use Rattle.std.specs.Prelude.{◌≡◌, ◌+◌, OnOk};
+ghost use Rattle.std.specs.Prelude.{◌≡◌, ◌+◌, OnOk, refl, true};
 ghost use Rattle.elf_records.specs.Number.{ok_map};
 ghost use Rattle.elf_records.specs.inner.Part.{five, part_at, part_end};
 ghost use Rattle.elf_records.specs.inner.Extent.{extent_fields};
@@ -56,7 +56,13 @@ pub struct ProgramHeader {
 impl ParseAt for ProgramHeader {
     ghost use Rattle.elf_records.specs.Segment.{program_header_reads};
 
+    const SHAPE: (usize, usize, bool) = (32, 56, true);
+
+    ghost SHAPE = { (32, 56, true) };
+
     ghost reads = { program_header_reads };
+
+    ghost shape_law = { refl };
 
     #[tactic(auto, unfolding(crate::specs::Record::numbers_at, crate::specs::Record::numbers_end))]
     fn parse_at<E: EndianParse>(
@@ -109,17 +115,6 @@ impl ParseAt for ProgramHeader {
                 })
             }
         }
-    }
-
-    fn size_for(class: Class) -> usize {
-        match class {
-            Class::ELF32 => 32,
-            Class::ELF64 => 56,
-        }
-    }
-
-    fn is_local() -> bool {
-        true
     }
 }
 

@@ -73,9 +73,10 @@ fn count_wide_before_nul(bytes: &[u8], start: usize) -> usize
     }
 }
 
-// The place of the first 0 byte. Bytes are compared in groups of `WIDE`, then of `LANES`, then one by one. A short name
-// ends in the first `LANES` bytes: then no byte after them is read, which may lie in memory that is not cached.
-fn first_nul(bytes: &[u8]) -> Option<usize>
+/// Returns the place of the first 0 byte.
+// Bytes are compared in groups of `WIDE`, then of `LANES`, then one by one. A short name ends in the first `LANES`
+// bytes: then no byte after them is read, which may lie in memory that is not cached.
+pub fn first_nul(bytes: &[u8]) -> Option<usize>
     ensures { result ≡ position (λ byte. byte == 0) bytes.now }
 {
     let mut start = 0;

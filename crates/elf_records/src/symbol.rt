@@ -1,5 +1,5 @@
 //! Symbols and tables of them (gABI, chapter "Symbol Table").
-ghost use Rattle.std.specs.Prelude.{◌≡◌, ◌==◌};
+ghost use Rattle.std.specs.Prelude.{◌≡◌, ◌==◌, refl, true};
 ghost use Rattle.elf_abi.specs.Values.{shn_undef};
 ghost use Rattle.elf_records.specs.Symbol.{symbol_binding, symbol_type, symbol_visibility};
 
@@ -81,7 +81,13 @@ impl Symbol {
 impl ParseAt for Symbol {
     ghost use Rattle.elf_records.specs.Symbol.{symbol_reads};
 
+    const SHAPE: (usize, usize, bool) = (16, 24, true);
+
+    ghost SHAPE = { (16, 24, true) };
+
     ghost reads = { symbol_reads };
+
+    ghost shape_law = { refl };
 
     #[tactic(auto, unfolding(crate::specs::Record::numbers_at, crate::specs::Record::numbers_end))]
     #[inline(always)]
@@ -125,16 +131,5 @@ impl ParseAt for Symbol {
                 })
             }
         }
-    }
-
-    fn size_for(class: Class) -> usize {
-        match class {
-            Class::ELF32 => 16,
-            Class::ELF64 => 24,
-        }
-    }
-
-    fn is_local() -> bool {
-        true
     }
 }

@@ -1,10 +1,10 @@
 //! A stream whose header is changed by its owner.
+use crate::small_files::HASHED;
 use elf::endian::AnyEndian;
 use elf::file::Class;
 use elf::relocation::Rel;
 use elf::section::SectionHeader;
 use elf::{ElfStream, MemSource};
-use elf_test_parts::files::HASHED;
 use std::alloc::Global;
 use std::process::Abort;
 use std::test::Fail;

@@ -1,6 +1,9 @@
-//! What only a test can see: writers and allocations that fail, and a user's own types and callers.
+//! Tests of what no contract says: sources, writers and allocations that fail, texts, and the values of constants.
+//! What a user's crate may do with the library is no test: `user_types` is proved.
 #![tactic(auto)]
 
+#[cfg(test)]
+mod constants;
 #[cfg(test)]
 mod current_header;
 #[cfg(test)]
@@ -8,22 +11,27 @@ mod faults;
 #[cfg(test)]
 mod links;
 #[cfg(test)]
-mod messages;
+mod listing;
+#[cfg(test)]
+mod memory;
 #[cfg(test)]
 mod opening;
 #[cfg(test)]
 mod records;
 #[cfg(test)]
-mod refusals;
-#[cfg(test)]
 mod shown;
 #[cfg(test)]
 mod sizes;
+#[cfg(test)]
+mod small_files;
+#[cfg(test)]
+mod sources;
 #[cfg(test)]
 mod streams;
 #[cfg(test)]
 mod streams_large;
 #[cfg(test)]
 mod tables;
+pub mod user_types;
 #[cfg(test)]
 mod value_names;

@@ -1,21 +1,21 @@
 //! How much of a source is loaded for look-ups.
 use crate::sizes::{IDENT, bytes_at};
+use crate::small_files::HASHED;
+use crate::sources::{Plan, PlannedSource};
 use elf::ElfStream;
 use elf::endian::AnyEndian;
 use elf_linking::links::load_links;
-use elf_test_parts::files::HASHED;
-use elf_test_parts::sources::{Meter, Metered};
 use std::alloc::{AllocError, Global};
 use std::test::Fail;
 
 /// How many bytes a source gives for a file with its headers, and then for its links.
 fn loaded_of(rt: &HostRuntime, file: &[u8]) -> Result<(u64, u64), Fail> {
-    let meter = Meter::new();
-    let source = Metered::new(file, &meter);
+    let plan = Plan::new(usize::MAX, None);
+    let source = PlannedSource::new(file, &plan);
     let mut stream = ElfStream::<AnyEndian, _, Global>::open_stream(rt.alloc(), source)?;
-    let (_, headers) = meter.taken();
+    let (_, headers) = plan.taken();
     load_links(&mut stream)?;
-    let (_, links) = meter.taken();
+    let (_, links) = plan.taken();
     Ok((headers, links))
 }
 

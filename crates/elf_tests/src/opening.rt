@@ -1,14 +1,12 @@
 //! Files that a user's own order opens, sources whose section headers are lost, and the caller that README shows.
-use crate::refusals::refusal;
 use crate::sizes::{IDENT, bytes_at};
+use crate::small_files::{HEADER_ALONE, TWO_SECTIONS, TWO_SECTIONS_BIG};
+use crate::sources::{Plan, PlannedSource, is_of_source};
+use crate::user_types::example::count_named;
+use crate::user_types::order::FileOrder;
 use elf::endian::{AnyEndian, NativeEndian};
 use elf::{ElfBytes, ElfStream, MemSource, ParseError};
-use elf_test_parts::files::{HEADER_ALONE, TWO_SECTIONS, TWO_SECTIONS_BIG};
-use elf_test_parts::sources::{Halting, is_of_source};
-use elf_user_types::example::count_named;
-use elf_user_types::order::FileOrder;
 use std::alloc::{AllocError, Global};
-use std::cell::Cell;
 use std::test::Fail;
 
 #[test]
@@ -16,11 +14,8 @@ fn a_users_order_opens_its_files(rt: HostRuntime) -> Result<(), Fail> {
     let file = ElfBytes::<FileOrder>::minimal_parse(&TWO_SECTIONS_BIG)?;
     let sections = file.section_headers().ok_or("no sections")?;
     assert!(rt; sections.len() == 2 && sections.get(1)?.sh_offset == 52);
-    let other = refusal(
-        rt.alloc(),
-        ElfBytes::<FileOrder>::minimal_parse(&TWO_SECTIONS),
-    )?;
-    assert!(rt; other.as_str() == "UnsupportedElfEndianness(1)", "{other}");
+    let other = ElfBytes::<FileOrder>::minimal_parse(&TWO_SECTIONS).err();
+    assert!(rt; matches!(other, Some(ParseError::UnsupportedElfEndianness(1))));
     Ok(())
 }
 
@@ -33,8 +28,7 @@ fn the_machines_order_is_a_type(rt: HostRuntime) -> Result<(), Fail> {
 
 #[test]
 fn named_sections_are_counted(rt: HostRuntime) -> Result<(), Fail> {
-    assert_eq!(rt; count_named(&TWO_SECTIONS)?, 2);
-    assert_eq!(rt; count_named(&HEADER_ALONE)?, 0);
+    assert!(rt; count_named(&TWO_SECTIONS)? == 2 && count_named(&HEADER_ALONE)? == 0);
     Ok(())
 }
 
@@ -66,9 +60,8 @@ type Stream<'a> = ElfStream<AnyEndian, MemSource<'a>, Global>;
 #[test]
 fn a_source_is_opened_by_its_segments(rt: HostRuntime) -> Result<(), Fail> {
     let file = lost_sections(rt.alloc(), 64 + 56)?;
-    let with_sections = Stream::open_stream(rt.alloc(), MemSource::new(&file));
-    let refused = refusal(rt.alloc(), with_sections)?;
-    assert!(rt; refused.as_str() == "BadOffset(2147483711)", "{refused}");
+    let refused = Stream::open_stream(rt.alloc(), MemSource::new(&file)).err();
+    assert!(rt; matches!(refused, Some(ParseError::BadOffset(2147483711))));
     let stream = Stream::open_stream_by_segments(rt.alloc(), MemSource::new(&file))?;
     assert!(rt; stream.ehdr.e_shoff == 0x7fff_ffff && stream.section_headers().is_empty());
     let [segment] = stream.segments().as_slice() else {
@@ -81,22 +74,22 @@ fn a_source_is_opened_by_its_segments(rt: HostRuntime) -> Result<(), Fail> {
 #[test]
 fn a_source_without_its_segments_is_refused(rt: HostRuntime) -> Result<(), Fail> {
     let file = lost_sections(rt.alloc(), 64 + 55)?;
-    let stream = Stream::open_stream_by_segments(rt.alloc(), MemSource::new(&file));
-    let refused = refusal(rt.alloc(), stream)?;
-    assert!(rt; refused.as_str() == "BadOffset(120)", "{refused}");
-    let bytes = refusal(rt.alloc(), ElfBytes::<AnyEndian>::parse_by_segments(&file))?;
-    assert!(rt; bytes.as_str() == "SliceReadError((64, 120))", "{bytes}");
+    let stream = Stream::open_stream_by_segments(rt.alloc(), MemSource::new(&file)).err();
+    assert!(rt; matches!(stream, Some(ParseError::BadOffset(120))));
+    let bytes = ElfBytes::<AnyEndian>::parse_by_segments(&file).err();
+    assert!(rt; matches!(bytes, Some(ParseError::SliceReadError((64, 120)))));
     Ok(())
 }
 
 #[test]
 fn a_source_that_fails_is_not_opened_by_its_segments(rt: HostRuntime) -> Result<(), Fail> {
     let file = lost_sections(rt.alloc(), 64 + 56)?;
-    let calls_left = Cell::new(2);
-    let source = Halting::new(&file, 64, &calls_left);
-    match ElfStream::<AnyEndian, _, Global>::open_stream_by_segments(rt.alloc(), source) {
-        Err(ParseError::IOError(error)) => assert!(rt; is_of_source(&error)),
-        _ => return Err(Fail::from("not the failure of the source")),
-    }
+    let plan = Plan::new(64, Some(2));
+    let source = PlannedSource::new(&file, &plan);
+    let error = ElfStream::<AnyEndian, _, Global>::open_stream_by_segments(
+        rt.alloc(),
+        source,
+    ).err();
+    assert!(rt; error.is_some_and(|error| is_of_source(&error)));
     Ok(())
 }

@@ -1,4 +1,5 @@
 //! The plain structs, which no call of the library reads or writes.
+use crate::shown::assert_shown;
 use elf::compression::{Elf32_Chdr, Elf64_Chdr};
 use elf::dynamic::{Elf32_Dyn, Elf64_Dyn};
 use elf::file::{Elf32_Ehdr, Elf64_Ehdr};
@@ -6,21 +7,11 @@ use elf::relocation::{Elf32_Rel, Elf32_Rela, Elf64_Rel, Elf64_Rela};
 use elf::section::{Elf32_Shdr, Elf64_Shdr};
 use elf::segment::{Elf32_Phdr, Elf64_Phdr};
 use elf::symbol::{Elf32_Sym, Elf64_Sym};
-use std::fmt::Debug;
-use std::process::Abort;
-
-/// Asserts the names of a struct's fields with what they hold.
-fn assert_fields<S: Debug + Drop>(rt: &(impl Abort + AllocGlobal), value: S, want: &str) {
-    match format!(in rt.alloc(); "{value:?}") {
-        Ok(text) => assert_eq!(rt; text.as_str(), want),
-        Err(_) => assert!(rt; false, "no memory"),
-    }
-}
 
 // Each field has the greatest value of its type.
 #[test]
 fn plain_structs_have_their_fields(rt: HostRuntime) {
-    assert_fields(
+    assert_shown(
         &rt,
         Elf32_Ehdr {
             e_ident: [u8::MAX; 16],
@@ -43,7 +34,7 @@ fn plain_structs_have_their_fields(rt: HostRuntime) {
         4294967295, e_flags: 4294967295, e_ehsize: 65535, e_phentsize: 65535, e_phnum: 65535, e_shentsize: 65535, \
         e_shnum: 65535, e_shstrndx: 65535 }",
     );
-    assert_fields(
+    assert_shown(
         &rt,
         Elf64_Ehdr {
             e_ident: [u8::MAX; 16],
@@ -66,7 +57,7 @@ fn plain_structs_have_their_fields(rt: HostRuntime) {
         18446744073709551615, e_shoff: 18446744073709551615, e_flags: 4294967295, e_ehsize: 65535, e_phentsize: \
         65535, e_phnum: 65535, e_shentsize: 65535, e_shnum: 65535, e_shstrndx: 65535 }",
     );
-    assert_fields(
+    assert_shown(
         &rt,
         Elf32_Shdr {
             sh_name: u32::MAX,
@@ -84,7 +75,7 @@ fn plain_structs_have_their_fields(rt: HostRuntime) {
         4294967295, sh_size: 4294967295, sh_link: 4294967295, sh_info: 4294967295, sh_addralign: 4294967295, \
         sh_entsize: 4294967295 }",
     );
-    assert_fields(
+    assert_shown(
         &rt,
         Elf64_Shdr {
             sh_name: u32::MAX,
@@ -102,7 +93,7 @@ fn plain_structs_have_their_fields(rt: HostRuntime) {
         18446744073709551615, sh_offset: 18446744073709551615, sh_size: 18446744073709551615, sh_link: 4294967295, \
         sh_info: 4294967295, sh_addralign: 18446744073709551615, sh_entsize: 18446744073709551615 }",
     );
-    assert_fields(
+    assert_shown(
         &rt,
         Elf32_Phdr {
             p_type: u32::MAX,
@@ -117,7 +108,7 @@ fn plain_structs_have_their_fields(rt: HostRuntime) {
         "Elf32_Phdr { p_type: 4294967295, p_offset: 4294967295, p_vaddr: 4294967295, p_paddr: 4294967295, p_filesz: \
         4294967295, p_memsz: 4294967295, p_flags: 4294967295, p_align: 4294967295 }",
     );
-    assert_fields(
+    assert_shown(
         &rt,
         Elf64_Phdr {
             p_type: u32::MAX,
@@ -138,7 +129,7 @@ fn plain_structs_have_their_fields(rt: HostRuntime) {
 // Each field has the greatest value of its type, and a signed one the least.
 #[test]
 fn plain_structs_of_records_have_their_fields(rt: HostRuntime) {
-    assert_fields(
+    assert_shown(
         &rt,
         Elf32_Sym {
             st_name: u32::MAX,
@@ -151,7 +142,7 @@ fn plain_structs_of_records_have_their_fields(rt: HostRuntime) {
         "Elf32_Sym { st_name: 4294967295, st_value: 4294967295, st_size: 4294967295, st_info: 255, st_other: 255, \
         st_shndx: 65535 }",
     );
-    assert_fields(
+    assert_shown(
         &rt,
         Elf64_Sym {
             st_name: u32::MAX,
@@ -164,7 +155,7 @@ fn plain_structs_of_records_have_their_fields(rt: HostRuntime) {
         "Elf64_Sym { st_name: 4294967295, st_info: 255, st_other: 255, st_shndx: 65535, st_value: \
         18446744073709551615, st_size: 18446744073709551615 }",
     );
-    assert_fields(
+    assert_shown(
         &rt,
         Elf32_Rel {
             r_offset: u32::MAX,
@@ -172,7 +163,7 @@ fn plain_structs_of_records_have_their_fields(rt: HostRuntime) {
         },
         "Elf32_Rel { r_offset: 4294967295, r_info: 4294967295 }",
     );
-    assert_fields(
+    assert_shown(
         &rt,
         Elf64_Rel {
             r_offset: u64::MAX,
@@ -180,7 +171,7 @@ fn plain_structs_of_records_have_their_fields(rt: HostRuntime) {
         },
         "Elf64_Rel { r_offset: 18446744073709551615, r_info: 18446744073709551615 }",
     );
-    assert_fields(
+    assert_shown(
         &rt,
         Elf32_Rela {
             r_offset: u32::MAX,
@@ -189,7 +180,7 @@ fn plain_structs_of_records_have_their_fields(rt: HostRuntime) {
         },
         "Elf32_Rela { r_offset: 4294967295, r_info: 4294967295, r_addend: -2147483648 }",
     );
-    assert_fields(
+    assert_shown(
         &rt,
         Elf64_Rela {
             r_offset: u64::MAX,
@@ -198,7 +189,7 @@ fn plain_structs_of_records_have_their_fields(rt: HostRuntime) {
         },
         "Elf64_Rela { r_offset: 18446744073709551615, r_info: 18446744073709551615, r_addend: -9223372036854775808 }",
     );
-    assert_fields(
+    assert_shown(
         &rt,
         Elf32_Dyn {
             d_tag: i32::MIN,
@@ -206,7 +197,7 @@ fn plain_structs_of_records_have_their_fields(rt: HostRuntime) {
         },
         "Elf32_Dyn { d_tag: -2147483648, d_un: 4294967295 }",
     );
-    assert_fields(
+    assert_shown(
         &rt,
         Elf64_Dyn {
             d_tag: i64::MIN,
@@ -214,7 +205,7 @@ fn plain_structs_of_records_have_their_fields(rt: HostRuntime) {
         },
         "Elf64_Dyn { d_tag: -9223372036854775808, d_un: 18446744073709551615 }",
     );
-    assert_fields(
+    assert_shown(
         &rt,
         Elf32_Chdr {
             ch_type: u32::MAX,
@@ -223,7 +214,7 @@ fn plain_structs_of_records_have_their_fields(rt: HostRuntime) {
         },
         "Elf32_Chdr { ch_type: 4294967295, ch_size: 4294967295, ch_addralign: 4294967295 }",
     );
-    assert_fields(
+    assert_shown(
         &rt,
         Elf64_Chdr {
             ch_type: u32::MAX,

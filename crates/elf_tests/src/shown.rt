@@ -1,20 +1,22 @@
 //! Values that are shown for a debugger.
+use crate::small_files::{HEADER_ALONE, TWO_SECTIONS};
+use crate::user_types::order::FileOrder;
+use crate::user_types::triple::Triple;
 use elf::endian::{AnyEndian, BigEndian, LittleEndian};
 use elf::file::Class;
 use elf::parse::{ParsingIterator, ParsingTable};
 use elf::string_table::StringTable;
 use elf::{ElfBytes, ParseError};
-use elf_test_parts::files::{HEADER_ALONE, TWO_SECTIONS};
-use elf_user_types::order::FileOrder;
-use elf_user_types::triple::Triple;
+use elfshow::runs::{Call, RunError};
+use elfshow::show::RequestError;
 use std::fmt::Debug;
 use std::process::Abort;
 use std::test::Fail;
 
 /// Asserts the debug text of a value.
-fn assert_shown<D: Debug + Drop>(rt: &(impl Abort + AllocGlobal), value: D, want: &str) {
+pub(crate) fn assert_shown<D: Debug + Drop>(rt: &(impl Abort + AllocGlobal), value: D, want: &str) {
     match format!(in rt.alloc(); "{value:?}") {
-        Ok(text) => assert_eq!(rt; text.as_str(), want),
+        Ok(text) => assert!(rt; text.as_str() == want, "{text}"),
         Err(_) => assert!(rt; false, "no memory"),
     }
 }
@@ -27,6 +29,10 @@ fn parts_are_shown(rt: HostRuntime) {
     assert_shown(&rt, Class::ELF32, "ELF32");
     assert_shown(&rt, StringTable::new(b"\0"), "StringTable { data: [0] }");
     assert_shown(&rt, ParseError::BadOffset(7), "BadOffset(7)");
+    assert_shown(&rt, Call::Sections, "Sections");
+    let refused = RunError::Open(ParseError::IntegerOverflow);
+    assert_shown(&rt, refused, "Open(IntegerOverflow)");
+    assert_shown(&rt, RequestError::Usage, "Usage");
 }
 
 // The fields of tables are private. A table stores its byte order as a bool.

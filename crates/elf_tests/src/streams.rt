@@ -1,7 +1,13 @@
 //! A stream over sources that give little, that fail, and that are shorter than they say.
+use crate::memory::all_memory;
+use crate::small_files::{
+    COMPRESSED, COMPRESSED_WIDE, HASHED, HASHED_OTHERWISE, ONE_DYNAMIC_ENTRY, ONE_SEGMENT,
+    TWO_SECTIONS, VERSIONED, VERSIONS_BY_NAME,
+};
+use crate::sources::{Plan, PlannedSource, is_of_source};
 use elf::dynamic::{Dyn, DynamicTable};
 use elf::endian::AnyEndian;
-use elf::gnu_symver::{SymbolDefinition, SymbolRequirement, SymbolVersionTable};
+use elf::gnu_symver::{SymbolRequirement, SymbolVersionTable};
 use elf::note::{Note, NoteIterator};
 use elf::parse::{ParseAt, ParsingTable};
 use elf::relocation::{Rel, RelIterator, Rela, RelaIterator};
@@ -10,35 +16,24 @@ use elf::segment::ProgramHeader;
 use elf::string_table::StringTable;
 use elf::symbol::{Symbol, SymbolTable};
 use elf::{ElfBytes, ElfStream, MemSource, ParseError};
-use elf_test_parts::files::{
-    COMPRESSED, COMPRESSED_WIDE, HASHED, HASHED_OTHERWISE, ONE_DYNAMIC_ENTRY, ONE_SEGMENT,
-    TWO_SECTIONS, VERSIONED, VERSIONS_BY_NAME,
-};
-use elf_test_parts::memory::all_memory;
-use elf_test_parts::sources::{Halting, Meter, Metered, Short, is_of_source};
 use std::alloc::{AllocError, Global};
-use std::cell::Cell;
-use std::io;
 use std::process::Abort;
 use std::test::Fail;
 
-/// The small files.
-fn files() -> [&'static [u8]; 9] {
+/// The small files, and how many calls over each of them read their first range, where nothing is cached.
+fn files() -> [(&'static [u8], usize); 9] {
     [
-        &TWO_SECTIONS,
-        &ONE_SEGMENT,
-        &COMPRESSED,
-        &COMPRESSED_WIDE,
-        &HASHED,
-        &HASHED_OTHERWISE,
-        &ONE_DYNAMIC_ENTRY,
-        &VERSIONED,
-        &VERSIONS_BY_NAME,
+        (&TWO_SECTIONS, 18),
+        (&ONE_SEGMENT, 15),
+        (&COMPRESSED, 15),
+        (&COMPRESSED_WIDE, 15),
+        (&HASHED, 17),
+        (&HASHED_OTHERWISE, 17),
+        (&ONE_DYNAMIC_ENTRY, 17),
+        (&VERSIONED, 18),
+        (&VERSIONS_BY_NAME, 17),
     ]
 }
-
-/// How many calls over each of the files read their first range, where nothing is cached.
-const READING: [usize; 9] = [18, 15, 15, 15, 17, 17, 17, 18, 17];
 
 const EMPTY: SectionHeader = SectionHeader {
     sh_name: 0,
@@ -146,24 +141,6 @@ const SEGMENTS: [ProgramHeader; 3] = [
     },
 ];
 
-/// A call that is made with a section header.
-#[derive(Clone, Copy)]
-enum View {
-    Data,
-    Strtab,
-    Rels,
-    Relas,
-    Notes,
-}
-
-const VIEWS: [View; 5] = [
-    View::Data,
-    View::Strtab,
-    View::Rels,
-    View::Relas,
-    View::Notes,
-];
-
 /// How a stream's answer compares to that of `ElfBytes`.
 #[derive(Clone, Copy, Debug, Drop, PartialEq, Eq)]
 enum Answer {
@@ -173,12 +150,20 @@ enum Answer {
     Other,
 }
 
-/// What a failed call is that ended with this error.
-fn failed_with(error: &io::Error) -> Answer {
-    if is_of_source(error) {
-        Answer::Failed
-    } else {
-        Answer::Other
+/// What a failed call is that ended with this error, beside one of `ElfBytes` that failed or did not.
+fn failed_with(error: &ParseError, is_refused: bool) -> Answer {
+    match error {
+        ParseError::OutOfMemory => Answer::Starved,
+        ParseError::IOError(_) => if is_of_source(error) {
+            Answer::Failed
+        } else {
+            Answer::Other
+        },
+        _ => if is_refused {
+            Answer::Same
+        } else {
+            Answer::Other
+        },
     }
 }
 
@@ -187,22 +172,14 @@ fn compared<T: PartialEq + Drop>(
     bytes: Result<T, ParseError>,
 ) -> Answer {
     match (stream, bytes) {
-        (Ok(one), Ok(other)) => {
-            if one == other {
-                Answer::Same
-            } else {
-                Answer::Other
-            }
-        }
-        (Err(ParseError::IOError(error)), _) => failed_with(&error),
-        (Err(ParseError::OutOfMemory), _) => Answer::Starved,
-        (Err(_), Err(_)) => Answer::Same,
-        _ => Answer::Other,
+        (Ok(one), Ok(other)) => if one == other {
+            Answer::Same
+        } else {
+            Answer::Other
+        },
+        (Err(error), bytes) => failed_with(&error, bytes.is_err()),
+        (Ok(_), Err(_)) => Answer::Other,
     }
-}
-
-fn second_string<'a>(strings: StringTable<'a>) -> Option<&'a [u8]> {
-    strings.get_raw(1).ok()
 }
 
 fn first_rel(mut rels: RelIterator<'_, AnyEndian>) -> Option<Rel> {
@@ -217,72 +194,9 @@ fn first_note<'a>(mut notes: NoteIterator<'a, AnyEndian>) -> Option<Note<'a>> {
     notes.next()
 }
 
-type Halted<'a> = ElfStream<AnyEndian, Halting<'a>, Global>;
-
-type Bytes<'a> = ElfBytes<'a, AnyEndian>;
-
-fn section_answer(
-    stream: &mut Halted<'_>,
-    file: &Bytes<'_>,
-    view: View,
-    shdr: &SectionHeader,
-) -> Answer {
-    match view {
-        View::Data => compared(stream.section_data(shdr), file.section_data(shdr)),
-        View::Strtab => compared(
-            stream.section_data_as_strtab(shdr).map(second_string),
-            file.section_data_as_strtab(shdr).map(second_string),
-        ),
-        View::Rels => compared(
-            stream.section_data_as_rels(shdr).map(first_rel),
-            file.section_data_as_rels(shdr).map(first_rel),
-        ),
-        View::Relas => compared(
-            stream.section_data_as_relas(shdr).map(first_rela),
-            file.section_data_as_relas(shdr).map(first_rela),
-        ),
-        View::Notes => compared(
-            stream.section_data_as_notes(shdr).map(first_note),
-            file.section_data_as_notes(shdr).map(first_note),
-        ),
-    }
+fn second_string<'a>(strings: StringTable<'a>) -> Option<&'a [u8]> {
+    strings.get_raw(1).ok()
 }
-
-fn segment_answer(
-    stream: &mut Halted<'_>,
-    file: &Bytes<'_>,
-    as_notes: bool,
-    phdr: &ProgramHeader,
-) -> Answer {
-    if as_notes {
-        compared(
-            stream.segment_data_as_notes(phdr).map(first_note),
-            file.segment_data_as_notes(phdr).map(first_note),
-        )
-    } else {
-        compared(stream.segment_data(phdr), file.segment_data(phdr))
-    }
-}
-
-/// A call that is made with no header.
-#[derive(Clone, Copy)]
-enum Choice {
-    Names,
-    Named,
-    Symbols,
-    BoundSymbols,
-    Dynamic,
-    Versions,
-}
-
-const CHOICES: [Choice; 6] = [
-    Choice::Names,
-    Choice::Named,
-    Choice::Symbols,
-    Choice::BoundSymbols,
-    Choice::Dynamic,
-    Choice::Versions,
-];
 
 fn second_name<'a, T: Drop>(found: (T, Option<StringTable<'a>>)) -> Option<Option<&'a [u8]>> {
     found.1.map(second_string)
@@ -306,44 +220,25 @@ fn copied(found: Option<&SectionHeader>) -> Option<SectionHeader> {
 
 type Versions<'a> = SymbolVersionTable<'a, AnyEndian>;
 
-/// The version that the first symbol needs.
-fn first_requirement<'a>(versions: &'a Versions<'_>) -> Option<SymbolRequirement<'a>> {
-    versions.get_requirement(0).ok()?
-}
+/// The hash, the flags and the first name of a definition, and whether it is hidden.
+type Defined<'a> = (u32, u16, Option<Option<&'a str>>, bool);
 
-fn have_same_name(
-    one: Option<Result<&str, ParseError>>,
-    other: Option<Result<&str, ParseError>>,
-) -> bool {
-    match (one, other) {
-        (Some(Ok(one)), Some(Ok(other))) => one == other,
-        (None, None) | (Some(Err(_)), Some(Err(_))) => true,
-        _ => false,
-    }
-}
-
-/// Whether both have the same fields of a version, the first of its names included.
-fn are_same(
-    mut one: SymbolDefinition<'_, AnyEndian>,
-    mut other: SymbolDefinition<'_, AnyEndian>,
-) -> bool {
-    one.hash == other.hash
-        && one.flags == other.flags
-        && one.hidden == other.hidden
-        && have_same_name(one.names.next(), other.names.next())
-}
-
-/// Whether both give the second symbol the same version.
-fn have_same_definition(one: &Versions<'_>, other: &Versions<'_>) -> bool {
-    match (one.get_definition(1), other.get_definition(1)) {
-        (Ok(Some(one)), Ok(Some(other))) => are_same(one, other),
-        (Ok(None), Ok(None)) | (Err(_), Err(_)) => true,
-        _ => false,
-    }
-}
-
-fn have_same_versions(one: &Versions<'_>, other: &Versions<'_>) -> bool {
-    first_requirement(one) == first_requirement(other) && have_same_definition(one, other)
+/// The version that the first symbol needs, and the one that the second is defined with.
+fn first_versions<'a>(
+    versions: &'a Versions<'_>,
+) -> (
+    Option<Option<SymbolRequirement<'a>>>,
+    Option<Option<Defined<'a>>>,
+) {
+    let defined = match versions.get_definition(1) {
+        Ok(Some(mut found)) => {
+            let name = found.names.next().map(|name| name.ok());
+            Some(Some((found.hash, found.flags, name, found.hidden)))
+        }
+        Ok(None) => Some(None),
+        Err(_) => None,
+    };
+    (versions.get_requirement(0).ok(), defined)
 }
 
 fn versions_answer(
@@ -352,101 +247,132 @@ fn versions_answer(
 ) -> Answer {
     match (stream, bytes) {
         (Ok(Some(one)), Ok(Some(other))) => {
-            if have_same_versions(&one, &other) {
-                Answer::Same
-            } else {
-                Answer::Other
-            }
+            compared(Ok(first_versions(&one)), Ok(first_versions(&other)))
         }
-        (stream, bytes) => compared(stream.map(is_there), bytes.map(is_there)),
-    }
-}
-
-fn is_there<T: Drop>(found: Option<T>) -> bool {
-    found.is_some()
-}
-
-fn choice_answer(stream: &mut Halted<'_>, file: &Bytes<'_>, choice: Choice) -> Answer {
-    match choice {
-        Choice::Names => compared(
-            stream.section_headers_with_strtab().map(second_name),
-            file.section_headers_with_strtab().map(second_name),
+        (stream, bytes) => compared(
+            stream.map(|found| found.is_some()),
+            bytes.map(|found| found.is_some()),
         ),
-        Choice::Named => compared(
-            stream.section_header_by_name(".s").map(copied),
-            file.section_header_by_name(".s"),
-        ),
-        Choice::Symbols => compared(
-            stream.symbol_table().map(second_symbol),
-            file.symbol_table().map(second_symbol),
-        ),
-        Choice::BoundSymbols => compared(
-            stream.dynamic_symbol_table().map(second_symbol),
-            file.dynamic_symbol_table().map(second_symbol),
-        ),
-        Choice::Dynamic => compared(
-            stream.dynamic().map(first_entry),
-            file.dynamic().map(first_entry),
-        ),
-        Choice::Versions => {
-            versions_answer(stream.symbol_version_table(), file.symbol_version_table())
-        }
     }
 }
 
 /// A call of a reader.
 #[derive(Clone, Copy)]
 enum Request {
-    Choice(Choice),
-    Section(View, SectionHeader),
-    Segment(bool, ProgramHeader),
+    Names,
+    Named,
+    Symbols,
+    BoundSymbols,
+    Dynamic,
+    Versions,
+    Data(SectionHeader),
+    Strtab(SectionHeader),
+    Rels(SectionHeader),
+    Relas(SectionHeader),
+    Notes(SectionHeader),
+    Segment(ProgramHeader),
+    SegmentNotes(ProgramHeader),
 }
 
-const CALLS: usize = CHOICES.len() + SECTIONS.len() * VIEWS.len() + SEGMENTS.len() * 2;
+/// The calls that are made with no header.
+const CHOICES: [Request; 6] = [
+    Request::Names,
+    Request::Named,
+    Request::Symbols,
+    Request::BoundSymbols,
+    Request::Dynamic,
+    Request::Versions,
+];
+
+/// How many calls are made with a section header.
+const VIEWS: usize = 5;
+
+const CALLS: usize = CHOICES.len() + SECTIONS.len() * VIEWS + SEGMENTS.len() * 2;
 
 /// The calls by number: those with no header, each view of each section, and each segment as notes and as bytes.
 fn call(number: usize) -> Option<Request> {
     if let Some(choice) = CHOICES.get(number) {
-        return Some(Request::Choice(*choice));
+        return Some(*choice);
     }
     let view = number.saturating_sub(CHOICES.len());
-    if let Some(shdr) = SECTIONS.get(view / VIEWS.len()) {
-        return Some(Request::Section(VIEWS[view % VIEWS.len()], *shdr));
+    if let Some(shdr) = SECTIONS.get(view / VIEWS).copied() {
+        return Some(match view % VIEWS {
+            0 => Request::Data(shdr),
+            1 => Request::Strtab(shdr),
+            2 => Request::Rels(shdr),
+            3 => Request::Relas(shdr),
+            _ => Request::Notes(shdr),
+        });
     }
-    let half = view.saturating_sub(SECTIONS.len() * VIEWS.len());
-    let phdr = SEGMENTS.get(half / 2)?;
-    Some(Request::Segment(half % 2 == 0, *phdr))
+    let half = view.saturating_sub(SECTIONS.len() * VIEWS);
+    let phdr = SEGMENTS.get(half / 2).copied()?;
+    Some(match half % 2 {
+        0 => Request::SegmentNotes(phdr),
+        _ => Request::Segment(phdr),
+    })
 }
 
-fn answer_of(stream: &mut Halted<'_>, file: &Bytes<'_>, request: Request) -> Answer {
+type Planned<'a> = ElfStream<AnyEndian, PlannedSource<'a>, Global>;
+
+type Bytes<'a> = ElfBytes<'a, AnyEndian>;
+
+/// What both readers answer to the same call, of which a part is compared.
+macro_rules! both {
+    ($stream:ident, $file:ident, $call:ident($($header:expr)?)) => {
+        compared($stream.$call($($header)?), $file.$call($($header)?))
+    };
+    ($stream:ident, $file:ident, $call:ident($($header:expr)?), $part:expr) => {
+        compared($stream.$call($($header)?).map($part), $file.$call($($header)?).map($part))
+    };
+}
+
+fn answer_of(stream: &mut Planned<'_>, file: &Bytes<'_>, request: Request) -> Answer {
     match request {
-        Request::Choice(choice) => choice_answer(stream, file, choice),
-        Request::Section(view, shdr) => section_answer(stream, file, view, &shdr),
-        Request::Segment(as_notes, phdr) => segment_answer(stream, file, as_notes, &phdr),
+        Request::Names => both!(stream, file, section_headers_with_strtab(), second_name),
+        Request::Named => compared(
+            stream.section_header_by_name(".s").map(copied),
+            file.section_header_by_name(".s"),
+        ),
+        Request::Symbols => both!(stream, file, symbol_table(), second_symbol),
+        Request::BoundSymbols => both!(stream, file, dynamic_symbol_table(), second_symbol),
+        Request::Dynamic => both!(stream, file, dynamic(), first_entry),
+        Request::Versions => {
+            versions_answer(stream.symbol_version_table(), file.symbol_version_table())
+        }
+        Request::Data(shdr) => both!(stream, file, section_data(&shdr)),
+        Request::Strtab(shdr) => both!(stream, file, section_data_as_strtab(&shdr), second_string),
+        Request::Rels(shdr) => both!(stream, file, section_data_as_rels(&shdr), first_rel),
+        Request::Relas(shdr) => both!(stream, file, section_data_as_relas(&shdr), first_rela),
+        Request::Notes(shdr) => both!(stream, file, section_data_as_notes(&shdr), first_note),
+        Request::Segment(phdr) => both!(stream, file, segment_data(&phdr)),
+        Request::SegmentNotes(phdr) => both!(
+            stream,
+            file,
+            segment_data_as_notes(&phdr),
+            first_note
+        ),
     }
 }
 
 /// Whether a call returned this error. Called again, the call answers as `ElfBytes` does.
 fn call_is_refused(
     rt: &(impl Abort + AllocGlobal),
-    stream: &mut Halted<'_>,
+    stream: &mut Planned<'_>,
     file: &Bytes<'_>,
     request: Request,
     refusal: Answer,
 ) -> bool {
-    let first = answer_of(&mut *stream, file, request);
-    if first != refusal {
-        assert_eq!(rt; first, Answer::Same);
-        return false;
-    }
-    assert_eq!(rt; answer_of(stream, file, request), Answer::Same);
-    true
+    let answer = answer_of(&mut *stream, file, request);
+    let is_refused = answer == refusal;
+    assert!(rt; is_refused || answer == Answer::Same, "{answer:?}");
+    assert!(rt; !is_refused || answer_of(stream, file, request) == Answer::Same);
+    is_refused
 }
 
 /// How many of all calls returned this error.
 fn refused_calls(
     rt: &(impl Abort + AllocGlobal),
-    stream: &mut Halted<'_>,
+    stream: &mut Planned<'_>,
     file: &Bytes<'_>,
     refusal: Answer,
 ) -> usize {
@@ -473,10 +399,15 @@ fn are_records_of<P: ParseAt + PartialEq + Copy + Drop>(
 }
 
 /// Whether the headers are those of `ElfBytes`.
-fn has_headers(stream: &Halted<'_>, file: &Bytes<'_>) -> bool {
+fn has_headers(stream: &Planned<'_>, file: &Bytes<'_>) -> bool {
     stream.ehdr == file.ehdr
         && are_records_of(stream.section_headers(), file.section_headers())
         && are_records_of(stream.segments(), file.segments())
+}
+
+/// A stream over a source with a plan.
+fn open<'a>(alloc: Global, bytes: &'a [u8], plan: &'a Plan) -> Result<Planned<'a>, ParseError> {
+    Planned::open_stream(alloc, PlannedSource::new(bytes, plan))
 }
 
 /// Whether a source that fails after a number of calls fails in the opening or in the calls that follow.
@@ -487,11 +418,10 @@ fn run_fails(
     calls_before: u64,
 ) -> Result<bool, Fail> {
     let file = ElfBytes::minimal_parse(bytes)?;
-    let calls_left = Cell::new(calls_before);
-    let source = Halting::new(bytes, width, &calls_left);
-    let mut stream = match Halted::open_stream(rt.alloc(), source) {
+    let plan = Plan::new(width, Some(calls_before));
+    let mut stream = match open(rt.alloc(), bytes, &plan) {
         Ok(stream) => stream,
-        Err(ParseError::IOError(error)) => return Ok(is_of_source(&error)),
+        Err(error) if is_of_source(&error) => return Ok(true),
         Err(error) => return Err(Fail::from(error)),
     };
     let failed = refused_calls(rt, &mut stream, &file, Answer::Failed);
@@ -515,7 +445,7 @@ fn calls_of_source(
 
 #[test]
 fn a_source_may_fail_at_each_call(rt: HostRuntime) -> Result<(), Fail> {
-    for bytes in files() {
+    for (bytes, _) in files() {
         for width in 1..=3 {
             let calls = calls_of_source(&rt, bytes, width)?;
             assert!(rt; calls > 20 && calls < 1000, "{calls} calls");
@@ -544,14 +474,12 @@ const BEYOND_NAMES: SectionHeader = SectionHeader {
     ..EMPTY
 };
 
-type Counted<'a> = ElfStream<AnyEndian, Metered<'a>, Global>;
-
 /// Asserts the bytes of a section, and returns how many calls of the source there were for them and how many bytes it
 /// gave.
 fn taken_for(
     rt: &(impl Abort + AllocGlobal),
-    stream: &mut Counted<'_>,
-    meter: &Meter,
+    stream: &mut Planned<'_>,
+    plan: &Plan,
     shdr: &SectionHeader,
     want: &[u8],
 ) -> (u64, u64) {
@@ -559,42 +487,32 @@ fn taken_for(
         Ok((bytes, None)) => assert!(rt; bytes == want, "{bytes:?}"),
         _ => assert!(rt; false, "another answer"),
     }
-    meter.taken()
+    plan.taken()
 }
 
 #[test]
 fn what_is_cached_is_not_read_again(rt: HostRuntime) -> Result<(), Fail> {
-    let meter = Meter::new();
-    let source = Metered::new(&TWO_SECTIONS, &meter);
-    let mut stream = Counted::open_stream(rt.alloc(), source)?;
-    assert!(rt; meter.taken().1 <= 132);
-    let names = taken_for(&rt, &mut stream, &meter, &NAMES, b"\0.s\0");
-    let again = taken_for(&rt, &mut stream, &meter, &NAMES, b"\0.s\0");
-    let within = taken_for(&rt, &mut stream, &meter, &WITHIN_NAMES, b".s");
+    let plan = Plan::new(usize::MAX, None);
+    let mut stream = open(rt.alloc(), &TWO_SECTIONS, &plan)?;
+    assert!(rt; plan.taken().1 <= 132);
+    let names = taken_for(&rt, &mut stream, &plan, &NAMES, b"\0.s\0");
+    let again = taken_for(&rt, &mut stream, &plan, &NAMES, b"\0.s\0");
+    let within = taken_for(&rt, &mut stream, &plan, &WITHIN_NAMES, b".s");
     assert!(rt; names.1 == 4 && again == (0, 0) && within == (0, 0));
-    let beyond = taken_for(&rt, &mut stream, &meter, &BEYOND_NAMES, b"s\0\0\0");
+    let beyond = taken_for(&rt, &mut stream, &plan, &BEYOND_NAMES, b"s\0\0\0");
     assert!(rt; beyond.0 > 0);
     Ok(())
 }
 
 #[test]
 fn a_source_that_ends_early_is_refused(rt: HostRuntime) {
-    let source = Short::new(&HASHED[..300], 336);
-    let error = ElfStream::<AnyEndian, _, _>::open_stream(rt.alloc(), source).err();
+    let plan = Plan::new(usize::MAX, None);
+    let source = PlannedSource::longer(&HASHED[..300], 336, &plan);
+    let error = Planned::open_stream(rt.alloc(), source).err();
     assert!(rt; matches!(error, Some(ParseError::BadOffset(336))));
 }
 
 type InMemory<'a> = ElfStream<AnyEndian, MemSource<'a>, Global>;
-
-/// The error for a range of a section, if there is one.
-fn range_error(stream: &mut InMemory<'_>, sh_offset: u64, sh_size: u64) -> Option<ParseError> {
-    let shdr = SectionHeader {
-        sh_offset,
-        sh_size,
-        ..EMPTY
-    };
-    stream.section_data(&shdr).err()
-}
 
 // No contract says which error a stream returns.
 #[test]
@@ -613,6 +531,16 @@ fn a_stream_names_the_type_that_it_expected(rt: HostRuntime) -> Result<(), Fail>
     Ok(())
 }
 
+/// The error for a range of a section, if there is one.
+fn range_error(stream: &mut InMemory<'_>, sh_offset: u64, sh_size: u64) -> Option<ParseError> {
+    let shdr = SectionHeader {
+        sh_offset,
+        sh_size,
+        ..EMPTY
+    };
+    stream.section_data(&shdr).err()
+}
+
 // No contract says which error a stream returns.
 #[test]
 fn a_stream_says_which_range_does_not_lie_in_the_file(rt: HostRuntime) -> Result<(), Fail> {
@@ -626,15 +554,6 @@ fn a_stream_says_which_range_does_not_lie_in_the_file(rt: HostRuntime) -> Result
     Ok(())
 }
 
-/// A stream over a source that gives one byte a read and does not fail.
-fn open<'a>(
-    alloc: Global,
-    bytes: &'a [u8],
-    calls_left: &'a Cell<u64>,
-) -> Result<Halted<'a>, ParseError> {
-    Halted::open_stream(alloc, Halting::new(bytes, 1, calls_left))
-}
-
 /// Whether the first call of a stream returns an error if its source fails after a number of calls.
 fn first_call_fails(
     rt: &(impl Abort + AllocGlobal),
@@ -643,9 +562,9 @@ fn first_call_fails(
     calls_before: u64,
 ) -> Result<bool, ParseError> {
     let file = ElfBytes::minimal_parse(bytes)?;
-    let calls_left = Cell::new(u64::MAX);
-    let mut stream = open(rt.alloc(), bytes, &calls_left)?;
-    calls_left.set(calls_before);
+    let plan = Plan::new(1, None);
+    let mut stream = open(rt.alloc(), bytes, &plan)?;
+    plan.calls_before.set(Some(calls_before));
     let is_refused = call_is_refused(rt, &mut stream, &file, request, Answer::Failed);
     assert!(rt; has_headers(&stream, &file));
     Ok(is_refused)
@@ -680,9 +599,9 @@ fn calls_that_read(rt: &(impl Abort + AllocGlobal), bytes: &[u8]) -> Result<usiz
 
 #[test]
 fn the_first_call_may_fail(rt: HostRuntime) -> Result<(), ParseError> {
-    let faults = faults_of_first_call(&rt, &TWO_SECTIONS, Request::Choice(Choice::Named))?;
+    let faults = faults_of_first_call(&rt, &TWO_SECTIONS, Request::Named)?;
     assert!(rt; faults > 4, "{faults} faults");
-    for (bytes, reading) in files().iter().zip(READING) {
+    for (bytes, reading) in files() {
         assert!(rt; calls_that_read(&rt, bytes)? >= reading);
     }
     Ok(())
@@ -692,12 +611,12 @@ fn the_first_call_may_fail(rt: HostRuntime) -> Result<(), ParseError> {
 fn opened<'a>(
     alloc: Global,
     bytes: &'a [u8],
-    calls_left: &'a Cell<u64>,
-    first: Result<Halted<'a>, ParseError>,
-) -> Result<(Halted<'a>, bool), ParseError> {
+    plan: &'a Plan,
+    first: Result<Planned<'a>, ParseError>,
+) -> Result<(Planned<'a>, bool), ParseError> {
     match first {
         Ok(stream) => Ok((stream, false)),
-        Err(ParseError::OutOfMemory) => Ok((open(alloc, bytes, calls_left)?, true)),
+        Err(ParseError::OutOfMemory) => Ok((open(alloc, bytes, plan)?, true)),
         Err(error) => Err(error),
     }
 }
@@ -706,9 +625,9 @@ fn opened<'a>(
 /// which then fails.
 fn assert_answered(rt: &(impl Abort + AllocGlobal), bytes: &[u8]) -> Result<usize, ParseError> {
     let file = ElfBytes::minimal_parse(bytes)?;
-    let calls_left = Cell::new(u64::MAX);
-    let first = open(rt.alloc(), bytes, &calls_left);
-    let (mut stream, is_again) = opened(rt.alloc(), bytes, &calls_left, first)?;
+    let plan = Plan::new(1, None);
+    let first = open(rt.alloc(), bytes, &plan);
+    let (mut stream, is_again) = opened(rt.alloc(), bytes, &plan, first)?;
     let refused = refused_calls(rt, &mut stream, &file, Answer::Starved);
     assert!(rt; has_headers(&stream, &file));
     Ok(refused.saturating_add(usize::from(is_again)))
@@ -717,17 +636,17 @@ fn assert_answered(rt: &(impl Abort + AllocGlobal), bytes: &[u8]) -> Result<usiz
 #[test]
 fn one_allocation_may_be_refused(rt: HostRuntime) -> Result<(), Fail> {
     let mut refused = 0usize;
-    for bytes in files() {
+    for (bytes, _) in files() {
         refused = refused.saturating_add(assert_answered(&rt, bytes)?);
     }
     assert!(rt; refused <= 1, "{refused} calls were refused");
     Ok(())
 }
 
-/// What a call answers while no memory is left.
+/// What a call answers while no memory is left, and the source fails if it is said to.
 fn starved_answer(
     alloc: Global,
-    stream: &mut Halted<'_>,
+    stream: &mut Planned<'_>,
     file: &Bytes<'_>,
     request: Request,
 ) -> Result<Answer, AllocError> {
@@ -737,61 +656,38 @@ fn starved_answer(
     Ok(found)
 }
 
-/// A stream that is opened while no memory is left, or if that fails while there is some; and whether it failed first.
-fn starved_opening<'a>(
-    alloc: Global,
-    bytes: &'a [u8],
-    calls_left: &'a Cell<u64>,
-) -> Result<(Halted<'a>, bool), Fail> {
-    let blocks = all_memory(alloc)?;
-    let first = open(alloc, bytes, calls_left);
-    drop(blocks);
-    Ok(opened(alloc, bytes, calls_left, first)?)
-}
-
-/// What a call answers while no memory is left and the source would fail.
-fn cached_answer(
-    alloc: Global,
-    stream: &mut Halted<'_>,
-    calls_left: &Cell<u64>,
-    file: &Bytes<'_>,
-    request: Request,
-) -> Result<Answer, AllocError> {
-    calls_left.set(0);
-    let cached = starved_answer(alloc, stream, file, request)?;
-    calls_left.set(u64::MAX);
-    Ok(cached)
-}
-
 /// Whether a call fails while no memory is left. Called again while there is some, it answers, and it still does when
 /// none is left again and the source would fail.
 fn is_starved(
     rt: &(impl Abort + AllocGlobal),
-    stream: &mut Halted<'_>,
-    calls_left: &Cell<u64>,
+    stream: &mut Planned<'_>,
+    plan: &Plan,
     file: &Bytes<'_>,
     request: Request,
 ) -> Result<bool, AllocError> {
     let first = starved_answer(rt.alloc(), &mut *stream, file, request)?;
-    assert!(rt;
-        first == Answer::Same || first == Answer::Starved,
-        "{first:?}"
-    );
-    assert_eq!(rt; answer_of(&mut *stream, file, request), Answer::Same);
-    let cached = cached_answer(rt.alloc(), stream, calls_left, file, request)?;
-    assert!(rt; cached == Answer::Same, "{cached:?}");
-    Ok(first == Answer::Starved)
+    let again = answer_of(&mut *stream, file, request);
+    plan.calls_before.set(Some(0));
+    let cached = starved_answer(rt.alloc(), stream, file, request)?;
+    plan.calls_before.set(None);
+    let is_answered = (first, again, cached) == (Answer::Same, Answer::Same, Answer::Same);
+    let is_starved = (first, again, cached) == (Answer::Starved, Answer::Same, Answer::Same);
+    assert!(rt; is_answered || is_starved, "{first:?} {again:?} {cached:?}");
+    Ok(is_starved)
 }
 
 /// How many of the opening and the calls with no header fail while no memory is left. To take all memory and give it
 /// back costs a tenth of a second and more, so not all calls are tried.
 fn starved_calls(rt: &(impl Abort + AllocGlobal), bytes: &[u8]) -> Result<usize, Fail> {
     let file = ElfBytes::minimal_parse(bytes)?;
-    let calls_left = Cell::new(u64::MAX);
-    let (mut stream, is_again) = starved_opening(rt.alloc(), bytes, &calls_left)?;
+    let plan = Plan::new(1, None);
+    let blocks = all_memory(rt.alloc())?;
+    let first = open(rt.alloc(), bytes, &plan);
+    drop(blocks);
+    let (mut stream, is_again) = opened(rt.alloc(), bytes, &plan, first)?;
     let mut starved = usize::from(is_again);
-    for choice in CHOICES {
-        if is_starved(rt, &mut stream, &calls_left, &file, Request::Choice(choice))? {
+    for request in CHOICES {
+        if is_starved(rt, &mut stream, &plan, &file, request)? {
             starved = starved.saturating_add(1);
         }
     }
@@ -806,7 +702,7 @@ fn what_is_cached_needs_no_memory(rt: HostRuntime) -> Result<(), Fail> {
         (&ONE_DYNAMIC_ENTRY, 2),
         (&VERSIONED, 3),
     ] {
-        assert_eq!(rt; starved_calls(&rt, bytes)?, starved);
+        assert!(rt; starved_calls(&rt, bytes)? == starved);
     }
     Ok(())
 }

@@ -1,9 +1,9 @@
 //! Streams over large files, with many cached ranges, and over sources that end early.
+use crate::small_files::TWO_SECTIONS;
+use crate::sources::{Plan, PlannedSource};
 use elf::endian::AnyEndian;
 use elf::section::SectionHeader;
 use elf::{ElfBytes, ElfStream, MemSource, ParseError, StreamSource};
-use elf_test_parts::files::TWO_SECTIONS;
-use elf_test_parts::sources::{Meter, Metered, Short};
 use std::alloc::{AllocError, Global};
 use std::io;
 use std::test::Fail;
@@ -53,20 +53,20 @@ fn a_range_of_more_than_a_mebibyte_is_read(rt: HostRuntime) -> Result<(), Fail> 
 #[test]
 fn a_range_of_more_than_a_mebibyte_takes_two_reads(rt: HostRuntime) -> Result<(), Fail> {
     let file = large_file(rt.alloc(), LARGE)?;
-    let meter = Meter::new();
-    let source = Metered::new(&file, &meter);
+    let plan = Plan::new(usize::MAX, None);
+    let source = PlannedSource::new(&file, &plan);
     let mut stream = ElfStream::<AnyEndian, _, _>::open_stream(rt.alloc(), source)?;
-    meter.taken();
+    plan.taken();
     assert!(rt; stream.section_data(&BYTES).is_ok());
-    assert!(rt; meter.taken() == (3, LARGE as u64));
+    assert!(rt; plan.taken() == (3, LARGE as u64));
     Ok(())
 }
 
 #[test]
 fn many_ranges_are_cached(rt: HostRuntime) -> Result<(), Fail> {
     let file = large_file(rt.alloc(), 1000)?;
-    let meter = Meter::new();
-    let source = Metered::new(&file, &meter);
+    let plan = Plan::new(usize::MAX, None);
+    let source = PlannedSource::new(&file, &plan);
     let mut stream = ElfStream::<AnyEndian, _, _>::open_stream(rt.alloc(), source)?;
     for sh_offset in 52..1052 {
         let shdr = SectionHeader {
@@ -76,7 +76,7 @@ fn many_ranges_are_cached(rt: HostRuntime) -> Result<(), Fail> {
         };
         assert!(rt; stream.section_data(&shdr).is_ok(), "{sh_offset}");
     }
-    meter.taken();
+    plan.taken();
     for sh_offset in 52..1052 {
         let shdr = SectionHeader {
             sh_offset,
@@ -87,7 +87,7 @@ fn many_ranges_are_cached(rt: HostRuntime) -> Result<(), Fail> {
         let start = sh_offset as usize;
         assert!(rt; file.get(start..start + 1) == Some(bytes));
     }
-    assert!(rt; meter.taken() == (0, 0));
+    assert!(rt; plan.taken() == (0, 0));
     Ok(())
 }
 
@@ -142,7 +142,8 @@ fn read_once<S: StreamSource>(source: &mut S, buf: &mut [u8]) -> Result<usize, i
 #[test]
 fn a_source_that_ends_in_the_header_is_refused_with_its_end(rt: HostRuntime) {
     for (there, end) in [(10, 16), (51, 52)] {
-        let source = Short::new(&TWO_SECTIONS[..there], 136);
+        let plan = Plan::new(usize::MAX, None);
+        let source = PlannedSource::longer(&TWO_SECTIONS[..there], 136, &plan);
         let error = ElfStream::<AnyEndian, _, _>::open_stream(rt.alloc(), source).err();
         assert!(rt;
             matches!(error, Some(ParseError::BadOffset(at)) if at == end),

@@ -1,11 +1,11 @@
 //! Tables of records, and iterators over them.
+use crate::user_types::even_byte::EvenByte;
+use crate::user_types::loops::{all_items, count_items};
+use crate::user_types::order::FileOrder;
+use crate::user_types::triple::Triple;
 use elf::endian::{AnyEndian, BigEndian, EndianParse, LittleEndian};
 use elf::file::Class;
 use elf::parse::{ParsingIterator, ParsingTable};
-use elf_user_types::even_byte::EvenByte;
-use elf_user_types::loops::{all_items, count_items};
-use elf_user_types::order::FileOrder;
-use elf_user_types::triple::Triple;
 use std::alloc::AllocError;
 use std::process::Abort;
 

@@ -1,22 +1,19 @@
 -- Which symbols are functions that a file defines for others, and the versions that it defines them with.
-use Rattle.std.specs.Prelude.{◌≡◌, ℕ, ◌==◌, ◌&&◌, ◌||◌, not, Bool, MatchBool, bit_and, List}
+use Rattle.std.specs.Prelude.{◌≡◌, ℕ, ◌==◌, ◌&&◌, not, Bool, MatchBool, bit_and, List}
 use Rattle.std.specs.Prelude.{[], ◌∷◌, Option, Some, None, Result, Ok, Err, MatchResult}
 use Rattle.std.specs.Option.{IsSomeAnd}
-use Rattle.elf_abi.specs.Values.{shn_undef, stb_local, stt_func, stt_gnu_ifunc, ver_flg_base}
+use Rattle.elf_abi.specs.Values.{shn_undef, stb_local, ver_flg_base}
 use Rattle.elf_records.specs.StringTable.{GivesText}
-use Rattle.elf_records.specs.Symbol.{symbol_binding, symbol_type}
+use Rattle.elf_records.specs.Symbol.{symbol_binding}
 use Rattle.elf_parts.specs.gnu_symver.Table.{Definition}
 use Rattle.elf_records.specs.declared.parse.ParseError.{ParseError}
 use Rattle.elf_records.specs.declared.symbol.Symbol.{Symbol}
+use Rattle.elf_tools.specs.Addresses.{is_code}
 use Rattle.elf_tools.specs.declared.functions.FunctionVersion.{FunctionVersion}
-
--- it is a function (STT_FUNC, 2) or one that is chosen when the file is loaded (STT_GNU_IFUNC, 10)
-abbrev pub is_function : Symbol → Bool
-is_function s = symbol_type s == stt_func || symbol_type s == stt_gnu_ifunc
 
 -- a section defines it, it is not local (STB_LOCAL, 0), and it is a function in this sense
 abbrev pub is_defined_function : Symbol → Bool
-is_defined_function s = not (s.st_shndx == shn_undef) && not (symbol_binding s == stb_local) && is_function s
+is_defined_function s = not (s.st_shndx == shn_undef) && not (symbol_binding s == stb_local) && is_code s
 
 -- the first name as text, or why it is none; a version without names is none
 abbrev pub GivesFirst : Bool → List (Result (List ℕ) ParseError) → Result (Option FunctionVersion) ParseError → Type 0

@@ -5,5 +5,4 @@ pub mod HashLint
 pub mod SymbolVersions
 pub mod Addresses
 pub mod DebugLink
-pub mod Known
 pub mod inner

@@ -2,7 +2,7 @@
 ghost use Rattle.std.specs.Prelude.{◌≡◌, ◌≤◌, ◌<◌, ℕ, IfOk, length, slice_index_or, take};
 ghost use Rattle.elf_records.specs.Symbol.{symbol_reads};
 ghost use Rattle.elf_records.specs.Table.{table_items, table_view};
-ghost use Rattle.elf_tools.specs.Addresses.{IsByAddress, code_address, has_address, has_code_bit, is_code, is_in};
+ghost use Rattle.elf_tools.specs.Addresses.{IsByAddress, code_address, has_address, is_code, is_in};
 ghost use Rattle.elf_tools.specs.Addresses.{last_in, location, located_symbols, nearest, nearest_in, nearest_of};
 ghost use Rattle.elf_tools.specs.Addresses.{starts_before};
 ghost use Rattle.elf_tools.specs.declared.addresses.Located.{Located};
@@ -71,18 +71,12 @@ pub fn has_address(symbol: &Symbol) -> bool
     is_placed && section != abi::SHN_UNDEF && section != abi::SHN_ABS && section != abi::SHN_COMMON
 }
 
-fn is_code(symbol: &Symbol) -> bool
+// Whether the symbol is a function (`STT_FUNC`), or one that is chosen when the file is loaded (`STT_GNU_IFUNC`).
+pub(crate) fn is_code(symbol: &Symbol) -> bool
     ensures { result ≡ is_code symbol.now }
 {
     let symtype = symbol.st_symtype();
     symtype == abi::STT_FUNC || symtype == abi::STT_GNU_IFUNC
-}
-
-// Whether bit 0 of the value of a symbol is no part of its address.
-fn has_code_bit(machine: u16, symbol: &Symbol) -> bool
-    ensures { result ≡ has_code_bit machine symbol.now }
-{
-    (machine == abi::EM_ARM || machine == abi::EM_MIPS) && is_code(symbol)
 }
 
 /// Returns the address of the first byte of a symbol, in a file for this machine (`e_machine`). It is the value of the
@@ -92,7 +86,8 @@ pub fn code_address(machine: u16, symbol: &Symbol) -> u64
     ensures { result ≡ code_address machine symbol.now }
 {
     let value = symbol.st_value;
-    if has_code_bit(machine, symbol) {
+    let has_code_bit = (machine == abi::EM_ARM || machine == abi::EM_MIPS) && is_code(symbol);
+    if has_code_bit {
         value - value % 2
     } else {
         value

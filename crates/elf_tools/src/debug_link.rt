@@ -1,12 +1,12 @@
 //! The links of a file to the files that have its debug information (GDB manual, section "Debugging Information in
 //! Separate Files").
-ghost use Rattle.std.specs.Prelude.{◌≡◌, ◌==◌};
+ghost use Rattle.std.specs.Prelude.{◌≡◌};
 ghost use Rattle.std.specs.Int.{next_multiple_of};
-ghost use Rattle.std.specs.List.{position};
 ghost use Rattle.elf_records.specs.Number.{ok_map};
 ghost use Rattle.elf_tools.specs.DebugLink.{alt_link_view, crc_at, debug_alt_link, debug_link, link_view};
 
 use elf::endian::EndianParse;
+use elf_records::string_table::first_nul;
 use std::fmt;
 use thiserror::Error;
 
@@ -65,7 +65,7 @@ pub struct DebugAltLink<'a> {
 pub fn debug_link<E: EndianParse>(order: E, section: &[u8]) -> Result<DebugLink<'_>, DebugLinkError>
     ensures { ok_map link_view result ≡ debug_link (E.little order) section.now }
 {
-    let Some(end) = first_zero(section) else {
+    let Some(end) = first_nul(section) else {
         return Err(DebugLinkError::EndlessName);
     };
     let name = &section[..end];
@@ -84,20 +84,13 @@ pub fn debug_link<E: EndianParse>(order: E, section: &[u8]) -> Result<DebugLink<
 pub fn debug_alt_link(section: &[u8]) -> Result<DebugAltLink<'_>, DebugLinkError>
     ensures { ok_map alt_link_view result ≡ debug_alt_link section.now }
 {
-    match first_zero(section) {
+    match first_nul(section) {
         Some(end) => Ok(DebugAltLink {
             name: &section[..end],
             build_id: &section[end + 1..],
         }),
         None => Err(DebugLinkError::EndlessName),
     }
-}
-
-// The place of the byte that ends a name.
-fn first_zero(bytes: &[u8]) -> Option<usize>
-    ensures { result ≡ position (λ byte. byte == 0) bytes.now }
-{
-    bytes.iter().position(|byte| *byte == 0)
 }
 
 // The four bytes of a checksum, from a place on.

@@ -4,8 +4,9 @@ ghost use Rattle.std.specs.List.{enumerate_from};
 ghost use Rattle.elf_records.specs.Symbol.{symbol_reads};
 ghost use Rattle.elf_parts.specs.gnu_symver.Table.{definition, definition_view};
 ghost use Rattle.elf_records.specs.Table.{table_items, table_view};
-ghost use Rattle.elf_tools.specs.Functions.{GivesVersion, GivesVersionOf, is_defined_function, is_function};
+ghost use Rattle.elf_tools.specs.Functions.{GivesVersion, GivesVersionOf, is_defined_function};
 
+use crate::addresses::is_code;
 use elf::endian::EndianParse;
 use elf::gnu_symver::{SymbolDefinition, SymbolVersions};
 use elf::symbol::{Symbol, SymbolTable};
@@ -20,19 +21,11 @@ pub struct FunctionVersion<'a> {
     pub hidden: bool,
 }
 
-// Whether the symbol is a function (`STT_FUNC`), or one that is chosen when the file is loaded (`STT_GNU_IFUNC`).
-fn is_function(symbol: &Symbol) -> bool
-    ensures { result ≡ is_function symbol.now }
-{
-    let symtype = symbol.st_symtype();
-    symtype == abi::STT_FUNC || symtype == abi::STT_GNU_IFUNC
-}
-
 /// Returns whether the symbol is a function that this file defines and other files can call.
 pub fn is_defined_function(symbol: &Symbol) -> bool
     ensures { result ≡ is_defined_function symbol.now }
 {
-    !symbol.is_undefined() && symbol.st_bind() != abi::STB_LOCAL && is_function(symbol)
+    !symbol.is_undefined() && symbol.st_bind() != abi::STB_LOCAL && is_code(symbol)
 }
 
 /// Returns the symbols of a table that are functions by `is_defined_function`, in order, each with its index. Those

@@ -1,6 +1,6 @@
 //! Callers of the library, each in a module of its own, with the contract that its user needs: `build_id`, `functions`,
-//! `load_plan`, `hash_lint`, `symbol_versions`, `addresses` and `debug_link`. The program `elf_cases` prints the results of
-//! the first four. `laws` has theorems for their callers, and `worked` the definitions of the last three at known values.
+//! `load_plan`, `hash_lint`, `symbol_versions`, `addresses` and `debug_link`. The program `elf_cases` prints
+//! their results. `laws` has theorems for their callers.
 #![tactic(auto)]
 
 pub mod addresses;
@@ -11,4 +11,3 @@ pub mod hash_lint;
 pub mod laws;
 pub mod load_plan;
 pub mod symbol_versions;
-pub mod worked;

@@ -7,19 +7,12 @@ ghost use Rattle.elfshow.specs.Question.{question};
 use crate::calls::Call;
 use crate::show::{Mode, RequestError};
 
-/// Two calls are equal exactly if they are the same call with the same index or, of `Name`, with the same bytes.
-pub fn equal_calls(a: &Call<'_>, b: &Call<'_>)
-    ensures { IsTrue (⟦<Call<'static> as PartialEq>⟧.eq a.now b.now) ↔ (question a.now ≡ question b.now) }
-{}
-
-/// Two modes are equal exactly if they are the same mode.
-pub fn equal_modes(a: Mode, b: Mode)
-    ensures { IsTrue (⟦<Mode as PartialEq>⟧.eq a b) ↔ (a ≡ b) }
-{}
-
-/// Two errors of a request are equal exactly if they are the same error.
-pub fn equal_request_errors(a: RequestError, b: RequestError)
-    ensures { IsTrue (⟦<RequestError as PartialEq>⟧.eq a b) ↔ (a ≡ b) }
+/// Two calls are equal exactly if they are the same call with the same index or, of `Name`, with the same bytes. Two modes
+/// are equal exactly if they are the same mode, and two errors of a request if they are the same error.
+pub fn equal_values()
+    ensures call { (a b : Call) → IsTrue (⟦<Call<'static> as PartialEq>⟧.eq a b) ↔ (question a ≡ question b) }
+    ensures mode { (a b : Mode) → IsTrue (⟦<Mode as PartialEq>⟧.eq a b) ↔ (a ≡ b) }
+    ensures error { (a b : RequestError) → IsTrue (⟦<RequestError as PartialEq>⟧.eq a b) ↔ (a ≡ b) }
 {}
 
 /// The clone of a call, of a mode or of an error of a request is the same value, and cloning it cannot fail.

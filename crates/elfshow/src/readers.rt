@@ -12,7 +12,7 @@ ghost use Rattle.elfshow.specs.Question.{Question};
 ghost use Rattle.elfshow.specs.Text.{text};
 
 use elf::endian::EndianParse;
-use elf::readers::list_answers_as_table;
+use elf::readers::calls_answer_alike;
 
 /// States that the text of every list of calls over an opened file is the same for the results of an `ElfBytes` and of
 /// an `ElfStream`, whatever header both have in `ehdr`.
@@ -22,5 +22,5 @@ pub fn texts_are_the_same<E: EndianParse>()
         text header (object_file E.little (with_header v header)) calls
         ≡ text s.headers.ehdr (stream_file E.little s bytes) calls }
 {
-    list_answers_as_table::<E>();
+    calls_answer_alike::<E>();
 }

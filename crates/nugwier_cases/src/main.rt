@@ -2,11 +2,13 @@
 //! the program. Prints the line, what is listed, what is printed on standard error, and the exit status. The word
 //! `NAME,62=0063` names the file NAME with other bytes from offset 62 on (`changes`), and is read whole. The words
 //! `NAME,fails=N` and `NAME,slips=N` name the file NAME in a source whose first N reads succeed, and then one fails:
-//! after `fails` the file cannot be read whole either, after `slips` it can (`source`).
+//! after `fails` the file cannot be read whole either, after `slips` it can (`source`). The rows of the file `calls`
+//! follow (`calls`).
 #![tactic(auto)]
 
 ghost use Rattle.std.specs.Prelude.{None};
 
+mod calls;
 mod changes;
 mod source;
 
@@ -104,7 +106,7 @@ fn main(rt: HostRuntime) -> io::Result<()> {
     for case in cases.lines() {
         show_case(&rt, case, &mut out)?;
     }
-    Ok(())
+    calls::show_calls(&rt, &mut out)
 }
 
 fn show_case<W: Write>(rt: &HostRuntime, case: &str, out: &mut W) -> io::Result<()> {

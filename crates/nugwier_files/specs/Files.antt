@@ -2,7 +2,7 @@
 use Rattle.std.specs.Prelude.{ℕ, if◌then◌else◌, List, [], ◌∷◌, map, Option, Some, None}
 use Rattle.std.specs.Borrow.{Bor}
 use Rattle.std.specs.Str.{bytes_eq}
-use Rattle.elf_libraries.specs.Tree.{content_in}
+use Rattle.elf_libraries.specs.Tree.{content_in, mem_files as library_files}
 use Rattle.elf_libraries.specs.declared.tree.memory.MemFile.{MemFile}
 use Rattle.nugwier_files.specs.Folder.{Folder, KnownFiles, Place, has, none, unreadable}
 use Rattle.nugwier_files.specs.declared.memory.MemEntry.{MemEntry}
@@ -10,7 +10,7 @@ use Rattle.nugwier_files.specs.declared.memory.MemFiles.{MemFiles}
 use Rattle.nugwier_files.specs.declared.memory.MemFolder.{MemFolder}
 
 abbrev pub mem_files : MemFiles → List MemFile
-mem_files s = s.files.now
+mem_files s = library_files s.files
 
 abbrev pub mem_folders : MemFiles → List MemFolder
 mem_folders s = s.folders.now

@@ -1,6 +1,5 @@
 //! Files and folders in memory, which are known.
 ghost use Rattle.std.specs.Prelude.{[], ◌≡◌, IfOk, Some, map, take};
-ghost use Rattle.std.specs.Option.{option_map};
 ghost use Rattle.elf_libraries.specs.Tree.{content_in};
 ghost use Rattle.nugwier_files.specs.Files.{folder_in, found_folder, mem_place};
 ghost use Rattle.nugwier_files.specs.Folder.{place_of};
@@ -9,7 +8,7 @@ use crate::files::Files;
 use crate::folder::{Entry, EntryKind};
 use crate::opening::Opening;
 use elf::MemSource;
-use elf_libraries::tree::memory::MemFile;
+use elf_libraries::tree::memory::{MemFile, MemLibraries};
 use elf_libraries::tree::{Identity, Libraries};
 use std::alloc::{AllocError, Global};
 use std::io;
@@ -32,7 +31,7 @@ pub struct MemFolder<'a> {
 #[derive(Clone, Copy)]
 pub struct MemFiles<'a> {
     alloc: Global,
-    files: &'a [MemFile<'a>],
+    files: MemLibraries<'a>,
     folders: &'a [MemFolder<'a>],
 }
 
@@ -46,7 +45,7 @@ impl<'a> MemFiles<'a> {
     {
         MemFiles {
             alloc,
-            files,
+            files: MemLibraries::new(alloc, files),
             folders: &[],
         }
     }
@@ -66,18 +65,6 @@ impl<'a> MemFiles<'a> {
         for folder in self.folders {
             if folder.path == path {
                 return Some(*folder);
-            }
-        }
-        None
-    }
-
-    // Returns the bytes of the file at a path.
-    fn find(&self, path: &[u8]) -> Option<&'a [u8]>
-        ensures { option_map (λ bytes. bytes.now) result ≡ content_in (mem_files self.now) path.now }
-    {
-        for file in self.files {
-            if file.path == path {
-                return Some(file.bytes);
             }
         }
         None
@@ -112,26 +99,26 @@ impl<'a> Files for MemFiles<'a> {
     ghost known = { λ s. Some (known_in s) };
 
     fn open(&self, path: &str) -> Option<MemSource<'a>> {
-        let bytes = self.find(path.as_bytes())?;
+        let bytes = self.files.find(path.as_bytes())?;
         Some(MemSource::new(bytes))
     }
 
     fn open_library(&self, path: &[u8]) -> Opening<MemSource<'a>> {
-        match self.find(path) {
+        match self.files.find(path) {
             Some(bytes) => Opening::Parts(MemSource::new(bytes)),
             None => Opening::Missing,
         }
     }
 
     fn read(&self, path: &str) -> io::Result<Vec<u8>> {
-        let Some(bytes) = self.find(path.as_bytes()) else {
+        let Some(bytes) = self.files.find(path.as_bytes()) else {
             return Err(io::Error::from(io::ErrorKind::NotFound));
         };
         Ok(Vec::from_slice(self.alloc, bytes)?)
     }
 
     fn read_front(&self, path: &[u8], most: usize) -> Result<Option<Vec<u8>>, AllocError> {
-        match self.find(path) {
+        match self.files.find(path) {
             Some(bytes) => Ok(Some(Vec::from_slice(self.alloc, first_bytes(bytes, most))?)),
             None => Ok(None),
         }
@@ -160,9 +147,6 @@ impl Libraries for MemFiles<'_> {
     ghost contents = { λ s. Some (content_in (mem_files s)) };
 
     fn read_library(&self, path: &[u8]) -> Result<Option<Vec<u8>>, AllocError> {
-        match self.find(path) {
-            Some(bytes) => Ok(Some(Vec::from_slice(self.alloc, bytes)?)),
-            None => Ok(None),
-        }
+        self.files.read_library(path)
     }
 }

@@ -4,7 +4,7 @@ use Rattle.std.specs.Option.{option_map}
 use Rattle.elf_abi.specs.Values.{dt_rpath, dt_runpath}
 use Rattle.elf_records.specs.Table.{Table}
 use Rattle.elf_records.specs.declared.dynamic.Dyn.{Dyn}
-use Rattle.nugwier_hardening.specs.Hardening.{Hardened, entries_unread, features_by, first_tagged, hardened_said, hardening_by, judged_said, known_entries}
+use Rattle.nugwier_hardening.specs.Hardening.{Hardened, entries_unread, features_by, hardened_said, hardening_by, judged_said, known_entries, last_tagged}
 use Rattle.nugwier_hardening.specs.Hardening.{path_at, path_in, path_missed, path_unread, paths_of, properties_unread}
 use Rattle.nugwier_taking.specs.Read.{fault_said, if_read}
 use Rattle.nugwier_hardening.specs.declared.hardening.LinkEntries.{LinkEntries}
@@ -30,15 +30,15 @@ said_six r a b c d e f u v w x y z one two three four five six =
 -- ---- search paths
 
 pub path_found : (tag : ℤ) (known : Option LinkEntries) (link : LinkEntries) (strings : List ℕ) (entries : List Dyn) → known ≡ Some link → link.strings ≡ Some strings → entries ≡ link.entries.items
-    → path_at strings entries (first_tagged tag entries) ≡ path_in tag (option_map link_view known)
+    → path_at strings (last_tagged tag entries) ≡ path_in tag (option_map link_view known)
 path_found tag known link strings entries is has same =
-    ap (λ (e : List Dyn). path_at strings e (first_tagged tag e)) same ∙ sym (ap (λ (s : Option (List ℕ)). path_in tag (Some (link.entries.items, s))) has)
+    ap (λ (e : List Dyn). path_at strings (last_tagged tag e)) same ∙ sym (ap (λ (s : Option (List ℕ)). path_in tag (Some (link.entries.items, s))) has)
     ∙ sym (ap (λ (k : Option LinkEntries). path_in tag (option_map link_view k)) is)
 
 pub path_lost : (tag : ℤ) (known : Option LinkEntries) (link : LinkEntries) (strings : List ℕ) (entries : List Dyn) → known ≡ Some link → link.strings ≡ Some strings → entries ≡ link.entries.items
-    → path_unread strings entries (first_tagged tag entries) ≡ path_missed tag (option_map link_view known)
+    → path_unread strings (last_tagged tag entries) ≡ path_missed tag (option_map link_view known)
 path_lost tag known link strings entries is has same =
-    ap (λ (e : List Dyn). path_unread strings e (first_tagged tag e)) same ∙ sym (ap (λ (s : Option (List ℕ)). path_missed tag (Some (link.entries.items, s))) has)
+    ap (λ (e : List Dyn). path_unread strings (last_tagged tag e)) same ∙ sym (ap (λ (s : Option (List ℕ)). path_missed tag (Some (link.entries.items, s))) has)
     ∙ sym (ap (λ (k : Option LinkEntries). path_missed tag (option_map link_view k)) is)
 
 -- ---- all of it

@@ -4,7 +4,7 @@
 use Rattle.std.specs.Prelude.{ℕ, ℤ, pos, ◌+◌, ◌==◌, ◌||◌, ◌&&◌, not, nat_lt, bit_and, Bool, false}
 use Rattle.std.specs.Prelude.{if◌then◌else◌, List, [], ◌∷◌, ◌++◌, codes, drop, filter, length, map}
 use Rattle.std.specs.Prelude.{Option, Some, None, Result, Ok, Err, unwrap_or}
-use Rattle.std.specs.List.{enumerate_from, find, flat_map, list_any, position, slice_get, slice_split, starts_with}
+use Rattle.std.specs.List.{enumerate_from, find, flat_map, last_or, list_any, slice_split, starts_with}
 use Rattle.std.specs.Option.{option_map}
 use Rattle.std.specs.Result.{result_ok}
 use Rattle.elf.specs.Answers.{segment_data, symbol_table}
@@ -13,6 +13,7 @@ use Rattle.elf.specs.Names.{is_string}
 use Rattle.elf.specs.ObjectFile.{ObjectFile, err_map}
 use Rattle.elf_abi.specs.declared.abi.TheConstants as abi
 use Rattle.elf_check.specs.Notes.{note_align}
+use Rattle.elf_dynamic.specs.dynamic_view.Entries.{value_of}
 use Rattle.elf_names.specs.Tags.{dt_flags, dt_flags_1}
 use Rattle.elf_abi.specs.Values.{dt_rpath, dt_runpath}
 use Rattle.elf_parts.specs.Note.{AbiTag, BuildId, NoteContent, Other, notes_in}
@@ -82,22 +83,19 @@ dt_bind_now = pos 24
 abbrev pub dt_debug : ℤ
 dt_debug = pos 21
 
--- an entry with this tag, whose number has a bit of the mask
-abbrev pub has_flag : ℤ → ℕ → Dyn → Bool
-has_flag tag mask entry = has_tag tag entry && has_bit (d_un_view entry) mask
+-- the value of this tag, which the last entry with it gives, has a bit of the mask
+abbrev pub has_flag : ℤ → ℕ → List Dyn → Bool
+has_flag tag mask entries = has_bit (unwrap_or (value_of tag entries) 0) mask
 
 -- DT_BIND_NOW, DF_BIND_NOW (8) or DF_1_NOW (1)
-abbrev pub binds_now : Dyn → Bool
-binds_now entry = has_tag dt_bind_now entry || has_flag dt_flags 8 entry || has_flag dt_flags_1 1 entry
+abbrev pub binds_now : List Dyn → Bool
+binds_now entries =
+    list_any (has_tag dt_bind_now) entries || has_flag dt_flags 8 entries || has_flag dt_flags_1 1 entries
 
--- DF_1_PIE
-abbrev pub is_marked_pie : Dyn → Bool
-is_marked_pie entry = has_flag dt_flags_1 0x8000000 entry
-
--- A program at any address has DF_1_PIE. Linkers before that flag gave a program, and no library, an entry DT_DEBUG.
+-- A program at any address has DF_1_PIE (0x8000000). Linkers before that flag gave a program, and no library, an entry DT_DEBUG.
 abbrev pub is_pie : Bool → List Dyn → Bool
 is_pie has_interpreter entries =
-    list_any is_marked_pie entries || (has_interpreter && list_any (has_tag dt_debug) entries)
+    has_flag dt_flags_1 0x8000000 entries || (has_interpreter && list_any (has_tag dt_debug) entries)
 
 abbrev pub program_kind : Bool → FileKind
 program_kind has_interpreter = if has_interpreter then kinds.Pie else kinds.StaticPie
@@ -141,35 +139,32 @@ entries_unread (Ok (Some (machine, entries, strings))) = strings_missed strings
 entries_unread (Ok None) = []
 entries_unread (Err e) = wrong (whole Dynamic) (Read e) ∷ []
 
--- the number of the first entry with a tag
-abbrev pub first_tagged : ℤ → List Dyn → Option ℕ
-first_tagged tag entries = position (has_tag tag) entries
+-- the number of each entry with a tag, and its value, if the first entry has number n
+abbrev pub all_tagged : ℤ → ℕ → List Dyn → List (ℕ × ℕ)
+all_tagged tag n entries =
+    map (λ (one : ℕ × Dyn). (one.0, d_un_view one.1))
+    (filter (λ (one : ℕ × Dyn). has_tag tag one.1) (enumerate_from n entries))
 
--- the string of an entry, and that it cannot be read
-abbrev pub path_of : List ℕ → Option Dyn → Option (List ℕ)
-path_of strings (Some entry) = result_ok (string_at strings (d_un_view entry))
-path_of strings None = None
+-- those of the last such entry, which counts
+abbrev pub last_tagged : ℤ → List Dyn → Option (ℕ × ℕ)
+last_tagged tag entries = last_or None (all_tagged tag 0 entries)
 
-abbrev pub path_lost : List ℕ → ℕ → Option Dyn → List Said
-path_lost strings i (Some entry) =
-    unread (record { part = Dynamic; item = EntryName i }) (string_at strings (d_un_view entry))
-path_lost strings i None = []
+-- the string of an entry with this number and this value, and that it cannot be read
+abbrev pub path_at : List ℕ → Option (ℕ × ℕ) → Option (List ℕ)
+path_at strings (Some one) = result_ok (string_at strings one.1)
+path_at strings None = None
 
--- the same of entry i
-abbrev pub path_at : List ℕ → List Dyn → Option ℕ → Option (List ℕ)
-path_at strings entries (Some i) = path_of strings (slice_get entries i)
-path_at strings entries None = None
-
-abbrev pub path_unread : List ℕ → List Dyn → Option ℕ → List Said
-path_unread strings entries (Some i) = path_lost strings i (slice_get entries i)
-path_unread strings entries None = []
+abbrev pub path_unread : List ℕ → Option (ℕ × ℕ) → List Said
+path_unread strings (Some one) =
+    unread (record { part = Dynamic; item = EntryName one.0 }) (string_at strings one.1)
+path_unread strings None = []
 
 abbrev pub path_in : ℤ → Option (List Dyn × Option (List ℕ)) → Option (List ℕ)
-path_in tag (Some (entries, Some strings)) = path_at strings entries (first_tagged tag entries)
+path_in tag (Some (entries, Some strings)) = path_at strings (last_tagged tag entries)
 path_in tag other = None
 
 abbrev pub path_missed : ℤ → Option (List Dyn × Option (List ℕ)) → List Said
-path_missed tag (Some (entries, Some strings)) = path_unread strings entries (first_tagged tag entries)
+path_missed tag (Some (entries, Some strings)) = path_unread strings (last_tagged tag entries)
 path_missed tag other = []
 
 -- a folder that is neither absolute nor beside the file
@@ -330,7 +325,7 @@ has_unsafe_path paths = is_unsafe_path paths.rpath || is_unsafe_path paths.runpa
 -- with these dynamic entries and search paths, these symbols and these features
 abbrev pub hardening_by : HeaderTables → Option (List Dyn) → Paths → Option (Table × List ℕ) → Option ℕ → Hardening
 hardening_by f entries paths symbols features =
-    let is_bound_now = option_map (list_any binds_now) entries in
+    let is_bound_now = option_map binds_now entries in
     record {
       machine = f.machine;
       kind = file_kind f.e_type f.segments entries;

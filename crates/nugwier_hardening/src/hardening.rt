@@ -1,6 +1,6 @@
 //! How a file is hardened against attacks.
 ghost use Rattle.std.specs.Prelude.{◌≡◌, ◌==◌, IfOk, OnOk, filter, length, map};
-ghost use Rattle.std.specs.List.{flat_map, list_any, slice_get, slice_split};
+ghost use Rattle.std.specs.List.{flat_map, list_any, slice_split};
 ghost use Rattle.std.specs.Option.{option_copied, option_map};
 ghost use Rattle.elf.specs.Answers.{symbols_view};
 ghost use Rattle.elf.specs.Names.{is_string};
@@ -10,19 +10,19 @@ ghost use Rattle.elf_records.specs.Number.{ok_map};
 ghost use Rattle.elf_records.specs.StringTable.{string_at};
 ghost use Rattle.elf_records.specs.Symbol.{symbol_reads};
 ghost use Rattle.elf_records.specs.Table.{table_items, table_view};
-ghost use Rattle.nugwier_hardening.specs.Hardening.{any_symbol, binds_now, count_symbols, dt_debug, dynamic_kind};
+ghost use Rattle.nugwier_hardening.specs.Hardening.{any_symbol, binds_now, count_symbols, dynamic_kind};
 ghost use Rattle.nugwier_hardening.specs.Hardening.{entries_unread, has_symbols};
 ghost use Rattle.nugwier_hardening.specs.Hardening.{feature_in, features_by, features_in};
 ghost use Rattle.nugwier_hardening.specs.Hardening.{features_of, file_kind};
-ghost use Rattle.nugwier_hardening.specs.Hardening.{first_properties, first_tagged, hardened, hardening_by};
+ghost use Rattle.nugwier_hardening.specs.Hardening.{first_properties, hardened, hardening_by};
 ghost use Rattle.nugwier_hardening.specs.Hardening.{headers_of};
 ghost use Rattle.nugwier_hardening.specs.Hardening.{has_flag, has_type, has_unsafe_path, is_canary};
 ghost use Rattle.nugwier_hardening.specs.Hardening.{is_executable_stack, is_fortifiable, is_fortified};
-ghost use Rattle.nugwier_hardening.specs.Hardening.{is_marked_pie, is_named, is_pie};
+ghost use Rattle.nugwier_hardening.specs.Hardening.{is_named, is_pie};
 ghost use Rattle.nugwier_hardening.specs.Hardening.{is_stripped};
 ghost use Rattle.nugwier_hardening.specs.Hardening.{is_unsafe_folder, is_unsafe_path, is_writable_code, judged_said};
 ghost use Rattle.nugwier_hardening.specs.Hardening.{kind_of, known_entries, lack_said, of_section, of_segment};
-ghost use Rattle.nugwier_hardening.specs.Hardening.{path_at, path_in, path_lost, path_missed, path_of};
+ghost use Rattle.nugwier_hardening.specs.Hardening.{last_tagged, path_at, path_in, path_missed};
 ghost use Rattle.nugwier_hardening.specs.Hardening.{path_unread};
 ghost use Rattle.nugwier_hardening.specs.Hardening.{properties_of, properties_unread, property_section};
 ghost use Rattle.nugwier_hardening.specs.Hardening.{property_segment, relro_of, stack_of, symbols_of};
@@ -49,7 +49,7 @@ use elf::string_table::TerminatedStrings;
 use elf::symbol::{Symbol, SymbolTable};
 use elf::{ParseError, abi};
 use elf_check::notes::note_align;
-use elf_dynamic::dynamic_view::has_tag;
+use elf_dynamic::dynamic_view::{has_tag, value_in};
 use elf_linking::needed;
 use nugwier_notes::properties::{feature_type, is_property_note, number_in, padded, property_at};
 use nugwier_report::hardening::{
@@ -65,7 +65,7 @@ use nugwier_taking::taking;
 use nugwier_taking::taking::{FoundSymbols, NotTaken, Symbols};
 use nugwier_words::words::Job;
 use nugwier_writing::slices::rest_of;
-use std::alloc::{AllocError, Global};
+use std::alloc::Global;
 use std::io::Write;
 
 /// Bytes of notes that have the properties of code, and the alignment that they declare.
@@ -193,7 +193,7 @@ fn property_segment(segments: &[ProgramHeader]) -> Option<(usize, ProgramHeader)
         .iter()
         .copied()
         .enumerate()
-        .find(|one| has_type(abi::PT_GNU_PROPERTY, &one.1))
+        .find(|one| one.1.p_type == abi::PT_GNU_PROPERTY)
 }
 
 fn take_segment<'f, E: EndianParse, R: ListedFile<E>>(
@@ -262,25 +262,23 @@ pub fn say_hardened<E: EndianParse, W: Write, V: Write>(
     let features = known_features(order, class, headers.machine, properties, report)?;
     let paths = SearchPaths { rpath, runpath };
     let entries = entries_in(&known);
-    let hardening = hardening_by(alloc, headers, entries, paths, &symbols, features)?;
+    let hardening = hardening_by(headers, entries, paths, &symbols, features);
     say_judged(path, requirements, &hardening, paths, report)
 }
 
 // How a file is hardened, with these dynamic entries and search paths, these symbols and these features.
 fn hardening_by<E: EndianParse>(
-    alloc: Global,
     headers: HeaderLists<'_>,
     entries: Option<&[Dyn]>,
     paths: SearchPaths<'_>,
     symbols: &Option<Symbols<'_, E>>,
     features: Option<u64>,
-) -> Result<Hardening, AllocError>
-    ensures { IfOk result (λ h. h ≡ hardening_by (headers_view headers.entry) (option_copied entries.entry)
-        (paths_view paths.entry) (option_map symbols_view symbols.now) features) }
+) -> Hardening
+    ensures { result ≡ hardening_by (headers_view headers.entry) (option_copied entries.entry)
+        (paths_view paths.entry) (option_map symbols_view symbols.now) features }
 {
     let binds_now = is_bound_now(entries);
-    let is_path_unsafe = unsafe_path(alloc, entries, paths)?;
-    Ok(Hardening {
+    Hardening {
         machine: headers.machine,
         kind: file_kind(headers.e_type, headers.segments, entries),
         relro: relro_of(headers.segments, binds_now),
@@ -290,10 +288,10 @@ fn hardening_by<E: EndianParse>(
         has_canary: has_canary(symbols),
         fortified: count_fortified(symbols),
         fortifiable: count_fortifiable(symbols),
-        is_path_unsafe,
+        is_path_unsafe: unsafe_path(entries, paths),
         features,
         is_stripped: is_stripped(headers.sections),
-    })
+    }
 }
 
 // Says how a file is hardened, and what it lacks.
@@ -339,23 +337,17 @@ fn say_lack<W: Write, V: Write>(
 
 // ---- segments
 
-fn has_type(p_type: u32, segment: &ProgramHeader) -> bool
-    ensures { result ≡ has_type p_type segment.now }
-{
-    segment.p_type == p_type
-}
-
 fn has_segment(p_type: u32, segments: &[ProgramHeader]) -> bool
     ensures { result ≡ list_any (has_type p_type) segments.now }
 {
-    segments.iter().any(|segment| has_type(p_type, segment))
+    segments.iter().any(|segment| segment.p_type == p_type)
 }
 
 fn is_writable_code(segment: &ProgramHeader) -> bool
     ensures { result ≡ is_writable_code segment.now }
 {
     let flags = segment.p_flags;
-    has_type(abi::PT_LOAD, segment) && flags & abi::PF_W != 0 && flags & abi::PF_X != 0
+    segment.p_type == abi::PT_LOAD && flags & abi::PF_W != 0 && flags & abi::PF_X != 0
 }
 
 fn count_writable_code(segments: &[ProgramHeader]) -> u64
@@ -370,7 +362,7 @@ fn count_writable_code(segments: &[ProgramHeader]) -> u64
 fn is_executable_stack(segment: &ProgramHeader) -> bool
     ensures { result ≡ is_executable_stack segment.now }
 {
-    has_type(abi::PT_GNU_STACK, segment) && segment.p_flags & abi::PF_X != 0
+    segment.p_type == abi::PT_GNU_STACK && segment.p_flags & abi::PF_X != 0
 }
 
 fn has_executable_stack(segments: &[ProgramHeader]) -> bool
@@ -462,40 +454,34 @@ fn entries_in<'a>(known: &'a Option<LinkEntries<'_>>) -> Option<&'a [Dyn]>
     }
 }
 
-// Whether an entry has this tag, and its number a bit of the mask.
-fn has_flag(tag: i64, mask: u64, entry: &Dyn) -> bool
-    ensures { result ≡ has_flag tag mask entry.now }
+// Whether the last entry with this tag has in its number a bit of the mask.
+fn has_flag(tag: i64, mask: u64, entries: &[Dyn]) -> bool
+    ensures { result ≡ has_flag tag mask entries.now }
 {
-    has_tag(entry, tag) && entry.d_val() & mask != 0
+    value_in(entries, tag).unwrap_or(0) & mask != 0
 }
 
-fn binds_now(entry: &Dyn) -> bool
-    ensures { result ≡ binds_now entry.now }
+fn has_any(tag: i64, entries: &[Dyn]) -> bool
+    ensures { result ≡ list_any (has_tag tag) entries.now }
 {
-    has_tag(entry, abi::DT_BIND_NOW)
-        || has_flag(abi::DT_FLAGS, abi::DF_BIND_NOW as u64, entry)
-        || has_flag(abi::DT_FLAGS_1, abi::DF_1_NOW as u64, entry)
+    entries.iter().any(|entry| has_tag(entry, tag))
 }
 
-fn any_binds_now(entries: &[Dyn]) -> bool
-    ensures { result ≡ list_any binds_now entries.now }
+fn binds_now(entries: &[Dyn]) -> bool
+    ensures { result ≡ binds_now entries.now }
 {
-    entries.iter().any(binds_now)
+    has_any(abi::DT_BIND_NOW, entries)
+        || has_flag(abi::DT_FLAGS, abi::DF_BIND_NOW as u64, entries)
+        || has_flag(abi::DT_FLAGS_1, abi::DF_1_NOW as u64, entries)
 }
 
 fn is_bound_now(entries: Option<&[Dyn]>) -> Option<bool>
-    ensures { result ≡ option_map (list_any binds_now) (option_copied entries.entry) }
+    ensures { result ≡ option_map binds_now (option_copied entries.entry) }
 {
     match entries {
-        Some(entries) => Some(any_binds_now(entries)),
+        Some(entries) => Some(binds_now(entries)),
         None => None,
     }
-}
-
-fn is_marked_pie(entry: &Dyn) -> bool
-    ensures { result ≡ is_marked_pie entry.now }
-{
-    has_flag(abi::DT_FLAGS_1, abi::DF_1_PIE as u64, entry)
 }
 
 // Whether a file is a program at any address: by its flag or, of linkers before that flag, by an entry that no library
@@ -503,20 +489,8 @@ fn is_marked_pie(entry: &Dyn) -> bool
 fn is_pie(has_interpreter: bool, entries: &[Dyn]) -> bool
     ensures { result ≡ is_pie has_interpreter entries.now }
 {
-    let is_program = has_interpreter && is_debugged(entries);
-    has_marked_pie(entries) || is_program
-}
-
-fn has_marked_pie(entries: &[Dyn]) -> bool
-    ensures { result ≡ list_any is_marked_pie entries.now }
-{
-    entries.iter().any(is_marked_pie)
-}
-
-fn is_debugged(entries: &[Dyn]) -> bool
-    ensures { result ≡ list_any (has_tag dt_debug) entries.now }
-{
-    entries.iter().any(|entry| has_tag(entry, abi::DT_DEBUG))
+    let is_program = has_interpreter && has_any(abi::DT_DEBUG, entries);
+    has_flag(abi::DT_FLAGS_1, abi::DF_1_PIE as u64, entries) || is_program
 }
 
 fn dynamic_kind(has_interpreter: bool, entries: &[Dyn]) -> FileKind
@@ -561,7 +535,7 @@ fn relro_of(segments: &[ProgramHeader], binds_now: Option<bool>) -> Option<Relro
 
 // ---- search paths
 
-// The string of the first entry with a tag, if there is one and it can be read.
+// The string of the last entry with a tag, if there is one and it can be read.
 fn found_path<'f, W: Write, V: Write>(
     tag: i64,
     known: &Option<LinkEntries<'f>>,
@@ -576,54 +550,36 @@ fn found_path<'f, W: Write, V: Write>(
     let Some(strings) = &known.strings else {
         return Ok(None);
     };
-    let entries = known.entries.as_slice();
-    path_at(strings, entries, first_tagged(tag, entries), report)
+    path_at(strings, last_tagged(tag, known.entries.as_slice()), report)
 }
 
-// The number of the first entry with a tag.
-fn first_tagged(tag: i64, entries: &[Dyn]) -> Option<usize>
-    ensures { result ≡ first_tagged tag entries.now }
+// The number of the last entry with a tag, and its value.
+fn last_tagged(tag: i64, entries: &[Dyn]) -> Option<(usize, u64)>
+    ensures { result ≡ last_tagged tag entries.now }
 {
-    entries.iter().position(|entry| has_tag(entry, tag))
+    let mut last = None;
+    for (number, entry) in entries.iter().enumerate() {
+        if has_tag(entry, tag) {
+            last = Some((number, entry.d_val()));
+        }
+    }
+    last
 }
 
+// The string of an entry with this number and this value, if it can be read.
 fn path_at<'f, W: Write, V: Write>(
     strings: &TerminatedStrings<'f>,
-    entries: &[Dyn],
-    number: Option<usize>,
+    entry: Option<(usize, u64)>,
     report: &mut Report<'_, W, V>,
 ) -> Result<Option<&'f [u8]>, Stop>
-    ensures path { IfOk result (λ path. option_copied path ≡ path_at strings.now entries.now number) }
-    ensures wrong { OnOk result (report.new ≡ saying report.old (path_unread strings.now entries.now number)) }
+    ensures path { IfOk result (λ path. option_copied path ≡ path_at strings.now entry) }
+    ensures wrong { OnOk result (report.new ≡ saying report.old (path_unread strings.now entry)) }
 {
-    let Some(number) = number else {
+    let Some((number, offset)) = entry else {
         return Ok(None);
     };
-    match entry_at(entries, number) {
-        Some(entry) => path_of(strings, number, entry, report),
-        None => Ok(None),
-    }
-}
-
-fn entry_at(entries: &[Dyn], number: usize) -> Option<&Dyn>
-    ensures { option_map (λ entry. entry.now) result ≡ slice_get entries.now number }
-{
-    entries.get(number)
-}
-
-// The string of an entry with this number, if it can be read.
-fn path_of<'f, W: Write, V: Write>(
-    strings: &TerminatedStrings<'f>,
-    number: usize,
-    entry: &Dyn,
-    report: &mut Report<'_, W, V>,
-) -> Result<Option<&'f [u8]>, Stop>
-    ensures path { IfOk result (λ path. option_copied path ≡ path_of strings.now (Some entry.now)) }
-    ensures wrong { OnOk result (report.new ≡ saying report.old
-        (path_lost strings.now number (Some entry.now))) }
-{
     let place = Part::Dynamic.item(Item::EntryName(number as u64));
-    report.readable(place, strings.get_raw(entry.d_val() as usize))
+    report.readable(place, strings.get_raw(offset as usize))
 }
 
 // Whether a folder is neither absolute nor beside the file.
@@ -635,52 +591,32 @@ fn is_unsafe_folder(folder: &[u8]) -> bool
         || folder.starts_with(b"${ORIGIN}"))
 }
 
-// The folders of a path, which have colons between them.
-fn folders<'a>(alloc: Global, path: &'a [u8]) -> Result<Vec<&'a [u8]>, AllocError>
-    ensures { IfOk result (λ folders. map (λ folder. folder.now) folders.items
-        ≡ slice_split (λ b. b == 58) path.now) }
+// Whether one of the folders of a path, which have colons between them, is unsafe.
+fn has_unsafe_folder(path: &[u8]) -> bool
+    ensures { result ≡ list_any is_unsafe_folder (slice_split (λ b. b == 58) path.now) }
 {
-    path.split(|byte| *byte == b':').collect(alloc)
-}
-
-fn is_any_unsafe(folders: &[&[u8]]) -> bool
-    ensures { result ≡ list_any is_unsafe_folder (map (λ folder. folder.now) folders.now) }
-{
-    for folder in folders {
-        if is_unsafe_folder(*folder) {
-            return true;
-        }
-    }
-    false
+    path.split(|byte| *byte == b':')
+        .any(|folder| is_unsafe_folder(folder))
 }
 
 // An empty path has no folders.
-fn is_unsafe_path(alloc: Global, path: Option<&[u8]>) -> Result<bool, AllocError>
-    ensures { IfOk result (λ is_unsafe. is_unsafe ≡ is_unsafe_path (option_copied path.entry)) }
+fn is_unsafe_path(path: Option<&[u8]>) -> bool
+    ensures { result ≡ is_unsafe_path (option_copied path.entry) }
 {
     match path {
-        Some(path) if !path.is_empty() => {
-            let folders = folders(alloc, path)?;
-            Ok(is_any_unsafe(folders.as_slice()))
-        }
-        _ => Ok(false),
+        Some(path) if !path.is_empty() => has_unsafe_folder(path),
+        _ => false,
     }
 }
 
-fn unsafe_path(
-    alloc: Global,
-    entries: Option<&[Dyn]>,
-    paths: SearchPaths<'_>,
-) -> Result<Option<bool>, AllocError>
-    ensures { IfOk result (λ is_unsafe. is_unsafe
-        ≡ option_map (λ _. has_unsafe_path (paths_view paths.entry)) (option_copied entries.entry)) }
+fn unsafe_path(entries: Option<&[Dyn]>, paths: SearchPaths<'_>) -> Option<bool>
+    ensures { result
+        ≡ option_map (λ _. has_unsafe_path (paths_view paths.entry)) (option_copied entries.entry) }
 {
-    if entries.is_none() {
-        return Ok(None);
+    match entries {
+        Some(_) => Some(is_unsafe_path(paths.rpath) || is_unsafe_path(paths.runpath)),
+        None => None,
     }
-    let rpath = is_unsafe_path(alloc, paths.rpath)?;
-    let runpath = is_unsafe_path(alloc, paths.runpath)?;
-    Ok(Some(rpath || runpath))
 }
 
 // ---- symbols
@@ -735,6 +671,7 @@ pub const FORTIFIED: &[(&str, &str)] = &[
     ("getlogin_r", "__getlogin_r_chk"),
     ("gets", "__gets_chk"),
     ("getwd", "__getwd_chk"),
+    ("longjmp", "__longjmp_chk"),
     ("longjmp", "____longjmp_chk"),
     ("mbsnrtowcs", "__mbsnrtowcs_chk"),
     ("mbsrtowcs", "__mbsrtowcs_chk"),

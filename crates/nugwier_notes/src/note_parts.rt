@@ -1,12 +1,12 @@
 //! Numbers and texts in the descriptors of notes.
-ghost use Rattle.std.specs.Prelude.{◌≡◌, ◌==◌};
-ghost use Rattle.std.specs.List.{position};
+ghost use Rattle.std.specs.Prelude.{◌≡◌};
 ghost use Rattle.elf_records.specs.Class.{address_size};
 ghost use Rattle.nugwier_notes.specs.NoteParts.{address_in, after_string, text_in};
 
 use crate::properties::NoteFile;
 use elf_parts::file::Class;
 use elf_records::parse::parse_by_class;
+use elf_records::string_table::first_nul;
 use nugwier_writing::slices::rest_of;
 
 /// Returns the size of an address.
@@ -35,12 +35,6 @@ pub(crate) fn text_in(bytes: &[u8]) -> &[u8]
         Some(end) => &bytes[..end],
         None => bytes,
     }
-}
-
-fn first_nul(bytes: &[u8]) -> Option<usize>
-    ensures { result ≡ position (λ byte. byte == 0) bytes.now }
-{
-    bytes.iter().position(|byte| *byte == 0)
 }
 
 /// Returns the bytes after a string and the 0 byte at its end.

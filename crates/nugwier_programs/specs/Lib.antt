@@ -2,7 +2,6 @@
 pub mod Usual
 -- the subfolders of libraries for the processor, and known ones
 pub mod Processor
-pub mod KnownProcessors
 -- names by shell patterns
 pub mod Patterns
 -- the folders of ld.so.conf

@@ -12,11 +12,12 @@ ghost use Rattle.nugwier_programs.specs.Configured.{pending_view, places_at, pla
 ghost use Rattle.nugwier_programs.specs.Patterns.{is_match};
 
 use crate::paths::Paths;
-use crate::patterns::{bytes_from, first_bytes, is_match, is_pattern};
+use crate::patterns::{is_match, is_pattern};
 use elf_dynamic::conf::{ConfLine, conf_lines};
 use elf_libraries::tree::{folder_of, last_slash};
 use nugwier_files::files::Files;
 use nugwier_files::folder::{Entry, EntryKind};
+use nugwier_writing::slices::{first_of, rest_of};
 use std::alloc::{AllocError, Global};
 use std::io;
 use std::str::from_utf8;
@@ -50,7 +51,7 @@ fn name_in(path: &[u8]) -> &[u8]
     ensures { result.now ≡ name_in path.now }
 {
     match last_slash(path) {
-        Some(slash) => bytes_from(bytes_from(path, slash), 1),
+        Some(slash) => rest_of(1, rest_of(slash, path)),
         None => path,
     }
 }
@@ -61,7 +62,7 @@ fn beside(alloc: Global, path: &[u8], name: &[u8]) -> Result<Vec<u8>, AllocError
 {
     let mut found = Vec::new(alloc);
     if let Some(slash) = last_slash(path) {
-        found.extend_from_slice(first_bytes(path, slash))?;
+        found.extend_from_slice(first_of(slash, path))?;
         found.push(b'/')?;
     }
     found.extend_from_slice(name)?;

@@ -1,5 +1,5 @@
 //! Names by shell patterns (POSIX, "Pattern Matching Notation"; the manual page glob(7)).
-ghost use Rattle.std.specs.Prelude.{◌≡◌, ◌==◌, ◌++◌, ◌∷◌, [], ◌<◌, codes, IfOk, OnOk, drop, length, position, slice_get, take};
+ghost use Rattle.std.specs.Prelude.{◌≡◌, ◌==◌, ◌++◌, ◌∷◌, [], ◌<◌, codes, IfOk, OnOk, drop, length, position, slice_get};
 ghost use Rattle.std.specs.List.{flat_map, list_any};
 ghost use Rattle.elf_dynamic.specs.Conf.{is_in};
 ghost use Rattle.nugwier_programs.specs.Patterns.{after, after_byte, after_run, begins_range, element_view, escaped};
@@ -7,8 +7,7 @@ ghost use Rattle.nugwier_programs.specs.Patterns.{first_by, first_view, is_by, i
 ghost use Rattle.nugwier_programs.specs.Patterns.{is_pattern, is_shown, rests_after, rests_view, set_length, set_or_byte};
 ghost use Rattle.nugwier_programs.specs.Patterns.{set_start, stands_for, tails};
 
-pub mod worked;
-
+use nugwier_writing::slices::{first_of, rest_of};
 use std::alloc::{AllocError, Global};
 
 // An element of a pattern.
@@ -49,13 +48,6 @@ fn is_negated(pattern: &[u8]) -> bool
     }
 }
 
-/// The bytes from `start` on.
-pub(crate) fn bytes_from(bytes: &[u8], start: usize) -> &[u8]
-    ensures { result.now ≡ drop start bytes.now }
-{
-    bytes.get(start..).unwrap_or(&[])
-}
-
 fn place_of_bracket(bytes: &[u8]) -> Option<usize>
     ensures { result ≡ position (λ b. b == 93) bytes.now }
 {
@@ -68,7 +60,7 @@ fn set_length(pattern: &[u8], start: usize) -> Option<usize>
     ensures { result ≡ set_length pattern.now }
 {
     // A bracket directly at the start is a byte of the set.
-    match place_of_bracket(bytes_from(pattern, start + 1)) {
+    match place_of_bracket(rest_of(start + 1, pattern)) {
         Some(place) => Some(place + 1),
         None => None,
     }
@@ -83,15 +75,8 @@ fn set_or_byte(pattern: &[u8]) -> FirstElement<'_>
     let Some(length) = set_length(pattern, start) else {
         return FirstElement::new(Element::Byte(b'['), 1);
     };
-    let set = first_bytes(bytes_from(pattern, start), length);
+    let set = first_of(length, rest_of(start, pattern));
     FirstElement::new(Element::Set { is_negated, set }, start + length + 1)
-}
-
-/// The first bytes, as many as the number says, or all.
-pub(crate) fn first_bytes(bytes: &[u8], count: usize) -> &[u8]
-    ensures { result.now ≡ take count bytes.now }
-{
-    bytes.get(..count).unwrap_or(bytes)
 }
 
 // What begins with a backslash.
@@ -264,7 +249,7 @@ fn rests_after<'a>(
     rests.push(name)?;
     let mut skip = 0;
     for place in 0..pattern.len() {
-        skip = step(alloc, bytes_from(pattern, place), skip, &mut rests)?;
+        skip = step(alloc, rest_of(place, pattern), skip, &mut rests)?;
     }
     Ok(rests)
 }
@@ -288,7 +273,7 @@ fn is_shown(pattern: &[u8], name: &[u8]) -> bool
 
 /// Returns whether a pattern matches a name. The time grows with the product of their lengths at most. The only error is
 /// a failed allocation.
-pub(crate) fn is_match(alloc: Global, pattern: &[u8], name: &[u8]) -> Result<bool, AllocError>
+pub fn is_match(alloc: Global, pattern: &[u8], name: &[u8]) -> Result<bool, AllocError>
     ensures { IfOk result (λ found. found ≡ is_match pattern.now name.now) }
 {
     if !is_shown(pattern, name) {
@@ -305,7 +290,7 @@ fn is_special(byte: u8) -> bool
 }
 
 /// Returns whether the text is a pattern of more than its own bytes.
-pub(crate) fn is_pattern(name: &[u8]) -> bool
+pub fn is_pattern(name: &[u8]) -> bool
     ensures { result ≡ is_pattern name.now }
 {
     for byte in name {

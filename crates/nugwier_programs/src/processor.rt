@@ -6,8 +6,6 @@ ghost use Rattle.elf_libraries.specs.Search.{folders_view};
 ghost use Rattle.nugwier_programs.specs.Processor.{cpuinfo, features_in, has, has_all, has_levels, hwcaps_of, level_for};
 ghost use Rattle.nugwier_programs.specs.Processor.{level_if, level_of, lines_of, words_of};
 
-pub mod worked;
-
 use elf::abi;
 use elf::file::Class;
 use elf_libraries::tree::Kind;
@@ -79,7 +77,8 @@ pub(crate) fn level_for<F: Files>(alloc: Global, files: &F, kind: Kind) -> Resul
     level_if(alloc, &text)
 }
 
-fn has_levels(class: Class, machine: u16) -> bool
+/// Returns whether programs of a class and a machine have levels: only 64-bit ones of x86-64 have.
+pub fn has_levels(class: Class, machine: u16) -> bool
     ensures { result ≡ has_levels class machine }
 {
     match class {
@@ -94,7 +93,9 @@ fn cpuinfo<F: Files>(files: &F) -> Result<Option<Vec<u8>>, AllocError>
     files.read_front(CPUINFO, MOST)
 }
 
-fn level_if(alloc: Global, text: &Option<Vec<u8>>) -> Result<Level, AllocError>
+/// Returns the level of a processor of which Linux says this, or the lowest one if it says nothing. The first line of
+/// features counts. The only error is a failed allocation.
+pub fn level_if(alloc: Global, text: &Option<Vec<u8>>) -> Result<Level, AllocError>
     ensures { IfOk result (λ level. level ≡ level_if (option_map vec_items text.now)) }
 {
     match text {

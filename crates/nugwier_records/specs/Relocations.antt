@@ -14,8 +14,7 @@ use Rattle.elf_records.specs.Table.{Table, table_get, table_view}
 use Rattle.elf_records.specs.declared.file.Class.{Class}
 use Rattle.elf_records.specs.declared.file.Class.TheVariants.{ELF32, ELF64}
 use Rattle.elf_records.specs.declared.parse.ParseError.{ParseError}
-use Rattle.elf_records.specs.declared.relocation.Rel.{Rel}
-use Rattle.elf_records.specs.declared.relocation.Rela.{Rela}
+use Rattle.elf_records.specs.declared.relocation.RelocationFields.{RelocationFields}
 use Rattle.elf_records.specs.declared.symbol.Symbol.{Symbol}
 use Rattle.nugwier_report.specs.Labels.{Named, label_at, named_by, section_name}
 use Rattle.nugwier_report.specs.Parts.{part_member, tag_name}
@@ -31,17 +30,8 @@ use Rattle.nugwier_report.specs.declared.problem.Place.{Place}
 use Rattle.nugwier_records.specs.declared.relocations.Info.{Info}
 use Rattle.nugwier_records.specs.declared.relocations.Machine.{Machine}
 use Rattle.nugwier_records.specs.declared.relocations.MipsInfo.{MipsInfo}
-use Rattle.nugwier_records.specs.declared.relocations.Relocation.{Relocation}
 use Rattle.nugwier_records.specs.declared.relocations.Symbols.{Symbols}
 use Rattle.nugwier_records.specs.declared.relocations.TheConstants.{NO_MIPS_INFO}
-
--- ---- a relocation, with or without an addend
-
-abbrev pub rel_fields : Rel → Relocation
-rel_fields r = record { r_offset = r.r_offset; r_sym = r.r_sym; r_type = r.r_type; r_addend = None }
-
-abbrev pub rela_fields : Rela → Relocation
-rela_fields r = record { r_offset = r.r_offset; r_sym = r.r_sym; r_type = r.r_type; r_addend = Some r.r_addend }
 
 -- ---- r_info
 
@@ -50,7 +40,7 @@ is_mips_64 machine ELF64 = machine.e_machine == EM_MIPS
 is_mips_64 machine ELF32 = false
 
 -- the symbol and the type
-abbrev pub plain_info : Relocation → Info
+abbrev pub plain_info : RelocationFields → Info
 plain_info r = record { symbol = r.r_sym; r_type = r.r_type; mips = None }
 
 -- In 64-bit files of MIPS four single bytes follow the symbol: the special symbol, and the third, the second and the
@@ -61,15 +51,15 @@ abbrev pub mips_info : ℕ → ℕ → ℕ → ℕ → ℕ → Info
 mips_info symbol first second third special =
     record { symbol = symbol; r_type = first; mips = Some (record { r_type2 = second; r_type3 = third; r_ssym = special }) }
 
-abbrev pub mips_little_info : Relocation → Info
+abbrev pub mips_little_info : RelocationFields → Info
 mips_little_info r =
     mips_info r.r_type (r.r_sym / 0x1000000) (r.r_sym / 0x10000 % 0x100) (r.r_sym / 0x100 % 0x100) (r.r_sym % 0x100)
 
-abbrev pub mips_big_info : Relocation → Info
+abbrev pub mips_big_info : RelocationFields → Info
 mips_big_info r =
     mips_info r.r_sym (r.r_type % 0x100) (r.r_type / 0x100 % 0x100) (r.r_type / 0x10000 % 0x100) (r.r_type / 0x1000000)
 
-abbrev pub info_of : Machine → Relocation → Info
+abbrev pub info_of : Machine → RelocationFields → Info
 info_of machine r =
     if is_mips_64 machine machine.class
     then (if machine.is_little then mips_little_info r else mips_big_info r)
@@ -142,7 +132,7 @@ addend_of (Some n) = signed n
 addend_of None = nothing
 
 -- relocation i of this part, with the name and the version of its symbol; the last five are of 64-bit files of MIPS
-abbrev pub relocation_members : Machine → Part → ℕ → Relocation → Info → Option (List ℕ) → Option Version → Members
+abbrev pub relocation_members : Machine → Part → ℕ → RelocationFields → Info → Option (List ℕ) → Option Version → Members
 relocation_members machine part i r info name version =
     let mips = unwrap_or info.mips NO_MIPS_INFO in
     part_member part
@@ -169,7 +159,7 @@ stated (Some mips) members = states kind.MipsRelocation members
 stated None members = states kind.Relocation (take 11 members)
 
 -- that the name or the version of its symbol cannot be read, then the relocation
-abbrev pub relocation_said : Machine → Part → Option Used → ℕ → Relocation → List Said
+abbrev pub relocation_said : Machine → Part → Option Used → ℕ → RelocationFields → List Said
 relocation_said machine part used i r =
     let info = info_of machine r in
     let place : Place = record { part = part; item = RelocationSymbol i } in

@@ -24,7 +24,7 @@ use elf_parts::endian::EndianParse;
 use elf_parts::file::Class;
 use elf_parts::gnu_symver::SymbolVersions;
 use elf_parts::parse::ParseError;
-use elf_parts::relocation::{Rel, Rela};
+use elf_parts::relocation::{Relocation, RelocationFields};
 use elf_parts::string_table::TerminatedStrings;
 use elf_parts::symbol::{Symbol, SymbolTable};
 use nugwier_report::names::Labels;
@@ -43,56 +43,6 @@ pub struct Machine {
     pub e_machine: u16,
     pub class: Class,
     pub is_little: bool,
-}
-
-/// The fields of a relocation.
-#[derive(Clone, Copy)]
-pub struct Relocation {
-    pub r_offset: u64,
-    pub r_sym: u32,
-    pub r_type: u32,
-    pub r_addend: Option<i64>,
-}
-
-/// A record of a relocation.
-pub trait Relocates: Drop {
-    ghost use Rattle.nugwier_records.specs.declared.relocations.Relocation.{Relocation};
-
-    ghost fields: { Self → Relocation };
-
-    /// Returns its fields.
-    fn fields(&self) -> Relocation
-        ensures { result ≡ fields self.now };
-}
-
-impl Relocates for Rel {
-    ghost use Rattle.nugwier_records.specs.Relocations.{rel_fields};
-
-    ghost fields = { rel_fields };
-
-    fn fields(&self) -> Relocation {
-        Relocation {
-            r_offset: self.r_offset,
-            r_sym: self.r_sym,
-            r_type: self.r_type,
-            r_addend: None,
-        }
-    }
-}
-
-impl Relocates for Rela {
-    ghost use Rattle.nugwier_records.specs.Relocations.{rela_fields};
-
-    ghost fields = { rela_fields };
-
-    fn fields(&self) -> Relocation {
-        Relocation {
-            r_offset: self.r_offset,
-            r_sym: self.r_sym,
-            r_type: self.r_type,
-            r_addend: Some(self.r_addend),
-        }
-    }
 }
 
 /// The fields of `r_info`.
@@ -119,7 +69,7 @@ pub const NO_MIPS_INFO: MipsInfo = MipsInfo {
     r_type3: 0,
 };
 
-fn info_of(machine: Machine, relocation: &Relocation) -> Info
+fn info_of(machine: Machine, relocation: &RelocationFields) -> Info
     ensures { result ≡ info_of machine relocation.now }
 {
     if !is_mips_64(machine) {
@@ -140,7 +90,7 @@ fn is_mips_64(machine: Machine) -> bool
     }
 }
 
-fn plain_info(relocation: &Relocation) -> Info
+fn plain_info(relocation: &RelocationFields) -> Info
     ensures { result ≡ plain_info relocation.now }
 {
     Info {
@@ -164,7 +114,7 @@ fn mips_info(symbol: u32, first: u32, second: u32, third: u32, special: u32) -> 
     }
 }
 
-fn mips_little_info(relocation: &Relocation) -> Info
+fn mips_little_info(relocation: &RelocationFields) -> Info
     ensures { result ≡ mips_little_info relocation.now }
 {
     let types = relocation.r_sym;
@@ -178,7 +128,7 @@ fn mips_little_info(relocation: &Relocation) -> Info
     )
 }
 
-fn mips_big_info(relocation: &Relocation) -> Info
+fn mips_big_info(relocation: &RelocationFields) -> Info
     ensures { result ≡ mips_big_info relocation.now }
 {
     let types = relocation.r_type;
@@ -300,14 +250,14 @@ fn used_name<'a, E: EndianParse, V: SymbolVersions<E>>(
 
 /// Relocations of a part of a file, each with the name and the version of its symbol, if there are symbols.
 #[derive(Drop)]
-pub struct RelocationRow<'a, E: EndianParse, V: SymbolVersions<E>, R: Relocates> {
+pub struct RelocationRow<'a, E: EndianParse, V: SymbolVersions<E>, R: Relocation> {
     pub part: Part,
     pub machine: Machine,
     pub symbols: Option<Symbols<'a, E, V>>,
     pub kind: PhantomData<R>,
 }
 
-impl<E: EndianParse, V: SymbolVersions<E>, R: Relocates> Row for RelocationRow<'_, E, V, R> {
+impl<E: EndianParse, V: SymbolVersions<E>, R: Relocation> Row for RelocationRow<'_, E, V, R> {
     type Item = R;
 
     ghost said = { λ row number relocation. relocation_said row.machine row.part
@@ -359,7 +309,7 @@ fn members_of<'a>(
     machine: Machine,
     part: Part,
     number: u64,
-    relocation: &Relocation,
+    relocation: &RelocationFields,
     info: &Info,
     name: Option<&'a [u8]>,
     version: Option<ShownVersion<'a>>,

@@ -11,6 +11,7 @@ use Rattle.elf_dynamic.specs.dynamic_view.Relocations.{PltList, Relas, Rels, plt
 use Rattle.elf_dynamic.specs.dynamic_view.Relocations as view
 use Rattle.elf_records.specs.Number.{ok_map}
 use Rattle.elf_records.specs.Record.{◌>>=◌}
+use Rattle.elf_records.specs.Relocation.{fields_of_rel, fields_of_rela}
 use Rattle.elf_records.specs.Table.{Table, table_items}
 use Rattle.elf_parts.specs.gnu_symver.Table.{Versions}
 use Rattle.elf_records.specs.declared.dynamic.Dyn.{Dyn}
@@ -28,7 +29,7 @@ use Rattle.nugwier_taking.specs.Read.{fault_said, given_said, if_read}
 use Rattle.nugwier_taking.specs.TypedSections.{TypedSection, sections_of}
 use Rattle.nugwier_report.specs.Parts.{tag_name}
 use Rattle.nugwier_report.specs.Labels.{Named}
-use Rattle.nugwier_records.specs.Relocations.{Used, rel_fields, rela_fields, relative_said, relocation_said}
+use Rattle.nugwier_records.specs.Relocations.{Used, relative_said, relocation_said}
 use Rattle.nugwier_writing.specs.Members.{Members, text}
 use Rattle.nugwier_report.specs.Said.{Said, numbered, states, whole, wrong}
 use Rattle.nugwier_writing.specs.declared.kind.Kind.TheVariants.{RelocationTableHeading, RelocationsHeading}
@@ -200,9 +201,9 @@ used_by around ((table, strings), is_dynamic) = record {
 -- of each relocation of a part
 abbrev pub each_said : Machine → Part → Option Used → Records → List Said
 each_said machine part used (rels records) =
-    numbered (λ i r. relocation_said machine part used i (rel_fields r)) 0 records
+    numbered (λ i r. relocation_said machine part used i (fields_of_rel r)) 0 records
 each_said machine part used (relas records) =
-    numbered (λ i r. relocation_said machine part used i (rela_fields r)) 0 records
+    numbered (λ i r. relocation_said machine part used i (fields_of_rela r)) 0 records
 each_said machine part used (relative addresses) = flat_map (relative_said part) addresses
 
 -- the same, or that they cannot be read

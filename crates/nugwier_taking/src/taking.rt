@@ -93,7 +93,7 @@ fn is_part<E: EndianParse, R: ListedFile<E>>(file: &R)
         (answer m (loaded (file_of (R.file file.now) (R.bytes file.now)) (R.ranges file.now))) }
 {
     file.is_part_of_whole();
-    part_answers_as_whole();
+    part_answers_as_whole::<E>();
 }
 
 // What was read, unless bytes are missing.

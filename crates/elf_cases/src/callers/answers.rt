@@ -1,12 +1,11 @@
 //! The results of the callers, as lines.
 use super::binding_lines::print_bindings;
 use super::needed_lines::print_needed_of_bytes;
+use elf::ElfBytes;
 use elf::endian::AnyEndian;
 use elf::gnu_symver::{IndexedVersions, SymbolVersionTable};
-use elf::section::SectionHeader;
 use elf::string_table::StringTable;
 use elf::symbol::{Symbol, SymbolTable};
-use elf::{ElfBytes, ParseError, ReadError};
 use elf_linking::indexed;
 use elf_linking::resolve::resolve;
 use elf_linking::resolver::{definition, tables};
@@ -15,6 +14,7 @@ use elf_tools::functions::{function_version, functions};
 use elf_tools::hash_lint::lint;
 use elf_tools::load_plan::{Mapping, load_plan};
 use std::alloc::Global;
+use std::fmt::Display;
 use std::io;
 use std::io::Write;
 
@@ -34,7 +34,11 @@ pub(super) fn print_answers<W: Write>(
         return print_resolved(alloc, out, true, name.as_bytes(), files);
     }
     if caller == "bindings" {
-        return print_bindings_in(alloc, out, files);
+        let mut libraries = Vec::new(alloc);
+        for data in files {
+            libraries.push(ElfBytes::minimal_parse(data.as_slice()))?;
+        }
+        return print_bindings(alloc, out, libraries.as_slice());
     }
     for data in files {
         print_answer(alloc, out, caller, data.as_slice())?;
@@ -46,47 +50,34 @@ fn print_answer<W: Write>(alloc: Global, out: &mut W, caller: &str, data: &[u8])
     if caller == "needed" {
         return print_needed_of_bytes(alloc, out, data);
     }
-    match ElfBytes::minimal_parse(data) {
-        Ok(file) => print_answer_of(alloc, out, caller, &file),
-        Err(error) => print_refusal(out, error),
-    }
-}
-
-fn print_answer_of<W: Write>(
-    alloc: Global,
-    out: &mut W,
-    caller: &str,
-    file: &File<'_>,
-) -> io::Result<()> {
+    let file = match ElfBytes::minimal_parse(data) {
+        Ok(file) => file,
+        Err(error) => return print_refusal(out, error),
+    };
     match caller {
-        "build_id" => print_build_id(out, build_id(file)),
-        "functions" => print_functions(alloc, out, file),
-        "load_plan" => print_plan(alloc, out, file),
-        "hash_lint" => print_lint(out, file),
+        "build_id" => print_build_id(out, &file),
+        "functions" => print_functions(alloc, out, &file),
+        "load_plan" => print_plan(alloc, out, &file),
+        "hash_lint" => print_lint(out, &file),
         _ => Err(io::Error::other("no such caller")),
     }
 }
 
-fn print_refusal<W: Write>(out: &mut W, error: ParseError) -> io::Result<()> {
+fn print_refusal<W: Write, D: Display + Drop>(out: &mut W, error: D) -> io::Result<()> {
     writeln!(out, "refused: {error}")
 }
 
-fn print_build_id<W: Write>(
-    out: &mut W,
-    answer: Result<Option<&[u8]>, ReadError>,
-) -> io::Result<()> {
-    match answer {
-        Ok(Some(id)) => print_hex(out, id),
+fn print_build_id<W: Write>(out: &mut W, file: &File<'_>) -> io::Result<()> {
+    match build_id(file) {
+        Ok(Some(id)) => {
+            for byte in id {
+                write!(out, "{byte:02x}")?;
+            }
+            writeln!(out)
+        }
         Ok(None) => writeln!(out, "none"),
-        Err(error) => writeln!(out, "refused: {error}"),
+        Err(error) => print_refusal(out, error),
     }
-}
-
-fn print_hex<W: Write>(out: &mut W, bytes: &[u8]) -> io::Result<()> {
-    for byte in bytes {
-        write!(out, "{byte:02x}")?;
-    }
-    writeln!(out)
 }
 
 fn print_functions<W: Write>(alloc: Global, out: &mut W, file: &File<'_>) -> io::Result<()> {
@@ -100,6 +91,7 @@ fn print_functions<W: Write>(alloc: Global, out: &mut W, file: &File<'_>) -> io:
     }
 }
 
+/// Prints the functions among these symbols, each with its version.
 fn print_all<W: Write>(
     alloc: Global,
     out: &mut W,
@@ -107,36 +99,16 @@ fn print_all<W: Write>(
     strings: &StringTable<'_>,
     versions: Option<&SymbolVersionTable<'_, AnyEndian>>,
 ) -> io::Result<()> {
-    let found = functions(alloc, symbols)?;
     let versions = indexed(alloc, versions)?;
-    print_found(out, found.as_slice(), strings, versions.as_ref())
-}
-
-/// Prints these functions, each with its index.
-fn print_found<W: Write>(
-    out: &mut W,
-    found: &[(usize, Symbol)],
-    strings: &StringTable<'_>,
-    versions: Option<&IndexedVersions<'_, '_, AnyEndian, Global>>,
-) -> io::Result<()> {
-    for (index, symbol) in found {
-        print_function(out, symbol, strings)?;
-        print_version(out, *index, versions)?;
+    for (index, symbol) in &functions(alloc, symbols)? {
+        write!(out, "0x{:x} ", symbol.st_value)?;
+        match strings.get_raw(symbol.st_name as usize) {
+            Ok(name) => out.write_all(name)?,
+            Err(error) => write!(out, "({error})")?,
+        }
+        print_version(out, *index, versions.as_ref())?;
     }
     Ok(())
-}
-
-fn print_function<W: Write>(
-    out: &mut W,
-    symbol: &Symbol,
-    strings: &StringTable<'_>,
-) -> io::Result<()> {
-    let value = symbol.st_value;
-    write!(out, "0x{value:x} ")?;
-    match strings.get_raw(symbol.st_name as usize) {
-        Ok(name) => out.write_all(name),
-        Err(error) => write!(out, "({error})"),
-    }
 }
 
 fn print_version<W: Write>(
@@ -159,53 +131,38 @@ fn print_version<W: Write>(
 }
 
 fn print_plan<W: Write>(alloc: Global, out: &mut W, file: &File<'_>) -> io::Result<()> {
-    match load_plan(alloc, file) {
-        Ok(plan) => print_mappings(out, plan.as_slice()),
-        Err(error) => writeln!(out, "refused: {error}"),
-    }
-}
-
-fn print_mappings<W: Write>(out: &mut W, plan: &[Mapping]) -> io::Result<()> {
-    for mapping in plan {
-        print_mapping(out, mapping)?;
+    let plan = match load_plan(alloc, file) {
+        Ok(plan) => plan,
+        Err(error) => return print_refusal(out, error),
+    };
+    for mapping in &plan {
+        let Mapping {
+            address,
+            memory_size,
+            offset,
+            file_size,
+            flags,
+        } = *mapping;
+        writeln!(
+            out,
+            "offset=0x{offset:x} address=0x{address:x} filesize=0x{file_size:x} memsize=0x{memory_size:x} flags={flags}"
+        )?;
     }
     Ok(())
-}
-
-fn print_mapping<W: Write>(out: &mut W, mapping: &Mapping) -> io::Result<()> {
-    let Mapping {
-        address,
-        memory_size,
-        offset,
-        file_size,
-        flags,
-    } = *mapping;
-    writeln!(
-        out,
-        "offset=0x{offset:x} address=0x{address:x} filesize=0x{file_size:x} memsize=0x{memory_size:x} flags={flags}"
-    )
 }
 
 fn print_lint<W: Write>(out: &mut W, file: &File<'_>) -> io::Result<()> {
-    if let Some(sections) = file.section_headers() {
-        for (index, section) in sections.iter().enumerate() {
-            print_section_lint(out, file, index, &section)?;
+    let Some(sections) = file.section_headers() else {
+        return Ok(());
+    };
+    for (index, section) in sections.iter().enumerate() {
+        match lint(file, &section) {
+            Some(Ok(indexed)) => writeln!(out, "section {index}: sound, indexed={indexed}")?,
+            Some(Err(fault)) => writeln!(out, "section {index}: {fault}")?,
+            None => {}
         }
     }
     Ok(())
-}
-
-fn print_section_lint<W: Write>(
-    out: &mut W,
-    file: &File<'_>,
-    index: usize,
-    section: &SectionHeader,
-) -> io::Result<()> {
-    match lint(file, section) {
-        Some(Ok(indexed)) => writeln!(out, "section {index}: sound, indexed={indexed}"),
-        Some(Err(fault)) => writeln!(out, "section {index}: {fault}"),
-        None => Ok(()),
-    }
 }
 
 /// Prints the first symbol of a name in the files, or the first definition of it.
@@ -223,20 +180,10 @@ fn print_resolved<W: Write>(
             Err(error) => return print_refusal(out, error),
         }
     }
-    print_resolved_in(alloc, out, is_any_symbol, name, libraries.as_slice())
-}
-
-fn print_resolved_in<W: Write>(
-    alloc: Global,
-    out: &mut W,
-    is_any_symbol: bool,
-    name: &[u8],
-    libraries: &[File<'_>],
-) -> io::Result<()> {
-    match tables(alloc, libraries) {
+    match tables(alloc, libraries.as_slice()) {
         Ok(tables) if is_any_symbol => print_definition(out, resolve(tables.as_slice(), name)),
         Ok(tables) => print_definition(out, definition(tables.as_slice(), name)),
-        Err(error) => writeln!(out, "refused: {error}"),
+        Err(error) => print_refusal(out, error),
     }
 }
 
@@ -251,12 +198,4 @@ fn print_definition<W: Write>(
         }
         None => writeln!(out, "none"),
     }
-}
-
-fn print_bindings_in<W: Write>(alloc: Global, out: &mut W, files: &[Vec<u8>]) -> io::Result<()> {
-    let mut libraries = Vec::new(alloc);
-    for data in files {
-        libraries.push(ElfBytes::minimal_parse(data.as_slice()))?;
-    }
-    print_bindings(alloc, out, libraries.as_slice())
 }

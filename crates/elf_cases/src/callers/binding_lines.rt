@@ -1,10 +1,8 @@
 //! What the references of a list of libraries bind to, as lines.
 use elf::endian::AnyEndian;
-use elf::gnu_symver::{IndexedVersions, SymbolVersionTable};
 use elf::string_table::StringTable;
 use elf::symbol::Symbol;
 use elf::{ElfBytes, ParseError};
-use elf_hash_check::hashcheck::AnyChecked;
 use elf_linking::bindings::{Bound, IndexedObject, bind_reference, references, with_index};
 use elf_linking::{Unreadable, VersionedObject, Wanted, indexed, reference, versioned_object};
 use std::alloc::Global;
@@ -30,24 +28,6 @@ pub(super) fn print_bindings<W: Write>(
     let mut tables = Vec::new(alloc);
     let mut versions = Vec::new(alloc);
     let mut places = Vec::new(alloc);
-    find_objects(out, libraries, &mut tables, &mut versions, &mut places)?;
-    let mut objects = Vec::new(alloc);
-    index_objects(alloc, tables, versions.as_slice(), &mut objects)?;
-    let scope = Scope {
-        objects: objects.as_slice(),
-        places: places.as_slice(),
-    };
-    print_bindings_in(alloc, out, &scope, libraries)
-}
-
-/// Adds the table, the versions and the place of each library that is an object, and prints why the others are none.
-fn find_objects<'a, W: Write>(
-    out: &mut W,
-    libraries: &[Opened<'a>],
-    tables: &mut Vec<AnyChecked<'a, AnyEndian>>,
-    versions: &mut Vec<Option<SymbolVersionTable<'a, AnyEndian>>>,
-    places: &mut Vec<usize>,
-) -> io::Result<()> {
     for (place, library) in libraries.iter().enumerate() {
         if let Some(object) = print_object(out, place, library)? {
             tables.push(object.table)?;
@@ -55,31 +35,17 @@ fn find_objects<'a, W: Write>(
             places.push(place)?;
         }
     }
-    Ok(())
-}
-
-/// Adds the objects of these tables, each with an index of its versions.
-fn index_objects<'a, 'data>(
-    alloc: Global,
-    tables: Vec<AnyChecked<'data, AnyEndian>>,
-    versions: &'a [Option<SymbolVersionTable<'data, AnyEndian>>],
-    objects: &mut Vec<IndexedObject<'a, 'data, AnyEndian>>,
-) -> io::Result<()> {
-    for (table, versions) in tables.into_iter().zip(versions) {
+    let mut objects = Vec::new(alloc);
+    for (table, versions) in tables.into_iter().zip(&versions) {
         objects.push(with_index(alloc, table, versions.as_ref())?)?;
     }
-    Ok(())
-}
-
-fn print_bindings_in<W: Write>(
-    alloc: Global,
-    out: &mut W,
-    scope: &Scope<'_, '_>,
-    libraries: &[Opened<'_>],
-) -> io::Result<()> {
+    let scope = Scope {
+        objects: objects.as_slice(),
+        places: places.as_slice(),
+    };
     for (place, library) in libraries.iter().enumerate() {
         if let Ok(library) = library {
-            print_bindings_of(alloc, out, scope, place, library)?;
+            print_bindings_of(alloc, out, &scope, place, library)?;
         }
     }
     Ok(())
@@ -125,22 +91,10 @@ fn print_bindings_of<W: Write>(
         return Ok(());
     };
     let versions = indexed(alloc, versions.as_ref())?;
-    let found = references(alloc, &symbols)?;
-    print_references(out, scope, place, &found, &strings, versions.as_ref())
-}
-
-/// Prints what these references of a library bind to, each with its index.
-fn print_references<W: Write>(
-    out: &mut W,
-    scope: &Scope<'_, '_>,
-    place: usize,
-    found: &[(usize, Symbol)],
-    strings: &StringTable<'_>,
-    versions: Option<&IndexedVersions<'_, '_, AnyEndian, Global>>,
-) -> io::Result<()> {
-    for (index, symbol) in found {
+    for (index, symbol) in &references(alloc, &symbols)? {
         write!(out, "object {place}: symbol {index} ")?;
-        print_bound(out, scope, symbol, strings, reference(versions, *index))?;
+        let wanted = reference(versions.as_ref(), *index);
+        print_bound(out, scope, symbol, &strings, wanted)?;
     }
     Ok(())
 }
@@ -161,7 +115,9 @@ fn print_bound<W: Write>(
         Ok(wanted) => wanted,
         Err(error) => return writeln!(out, ": {error}"),
     };
-    print_wanted(out, &wanted)?;
+    if let Wanted::Compatible(version) | Wanted::Only(version) = &wanted {
+        write!(out, "@{}", version.name)?;
+    }
     match bind_reference(scope.objects, symbol, name, &wanted) {
         Ok(bound) => print_bound_to(out, scope.places, &bound),
         Err(fault) => {
@@ -171,16 +127,6 @@ fn print_bound<W: Write>(
                 out,
                 ": object {place}: version of symbol {symbol} cannot be read"
             )
-        }
-    }
-}
-
-fn print_wanted<W: Write>(out: &mut W, wanted: &Wanted<'_>) -> io::Result<()> {
-    match wanted {
-        Wanted::Any => Ok(()),
-        Wanted::Compatible(version) | Wanted::Only(version) => {
-            let name = version.name;
-            write!(out, "@{name}")
         }
     }
 }

@@ -1,7 +1,7 @@
 //! The results of `needed`, as lines.
 use elf::endian::AnyEndian;
 use elf::{ElfStream, FileSource, MemSource, ParseError, StreamSource};
-use elf_linking::needed::{Name, Names, NamesError, Role, read_dynamic_names};
+use elf_linking::needed::{Name, Names, Role, read_dynamic_names};
 use std::alloc::Global;
 use std::fs::File;
 use std::io;
@@ -36,14 +36,11 @@ fn print_needed<S: StreamSource, W: Write>(
     out: &mut W,
     opened: Result<Stream<S>, ParseError>,
 ) -> io::Result<()> {
-    match opened {
-        Ok(mut stream) => print_names(out, read_dynamic_names(alloc, &mut stream)),
-        Err(error) => writeln!(out, "refused: {error}"),
-    }
-}
-
-fn print_names<W: Write>(out: &mut W, found: Result<Option<Names>, NamesError>) -> io::Result<()> {
-    match found {
+    let mut stream = match opened {
+        Ok(stream) => stream,
+        Err(error) => return writeln!(out, "refused: {error}"),
+    };
+    match read_dynamic_names(alloc, &mut stream) {
         Ok(Some(names)) if !is_empty(&names) => print_all(out, &names),
         Ok(_) => writeln!(out, "none"),
         Err(error) => writeln!(out, "refused: {error}"),
@@ -60,18 +57,15 @@ fn is_empty(names: &Names) -> bool {
 fn print_all<W: Write>(out: &mut W, names: &Names) -> io::Result<()> {
     print_one(out, "soname ", names, names.soname.as_ref())?;
     for library in &names.libraries {
-        print_one(out, role_word(library.role), names, Some(&library.name))?;
+        let word = match library.role {
+            Role::Needed => "needed ",
+            Role::Auxiliary => "auxiliary ",
+            Role::Filter => "filter ",
+        };
+        print_one(out, word, names, Some(&library.name))?;
     }
     print_one(out, "runpath ", names, names.runpath.as_ref())?;
     print_one(out, "rpath ", names, names.rpath.as_ref())
-}
-
-fn role_word(role: Role) -> &'static str {
-    match role {
-        Role::Needed => "needed ",
-        Role::Auxiliary => "auxiliary ",
-        Role::Filter => "filter ",
-    }
 }
 
 fn print_one<W: Write>(

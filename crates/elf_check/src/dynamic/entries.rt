@@ -47,7 +47,7 @@ fn has_its_string(strings: &TerminatedStrings<'_>, entry: &Dyn) -> bool
 }
 
 // Whether one of the entries ends the table.
-fn has_null<E: EndianParse>(table: &DynamicTable<'_, E>) -> bool
+pub(crate) fn has_null<E: EndianParse>(table: &DynamicTable<'_, E>) -> bool
     ensures { result ≡ list_any (has_tag dt_null) (table_items dyn_reads (table_view table.now)) }
 {
     table.iter().any(|entry| is_null(&entry))

@@ -1,9 +1,6 @@
 //! The check of dynamic entries.
 ghost use Rattle.std.specs.Prelude.{◌≡◌, ◌↔◌, IfSome, IsTrue, MatchOption, Ok, true};
-ghost use Rattle.std.specs.List.{list_any};
-ghost use Rattle.elf_abi.specs.Values.{dt_null, sht_dynamic};
-ghost use Rattle.elf_records.specs.Dynamic.{dyn_reads, has_tag};
-ghost use Rattle.elf_records.specs.Table.{table_items, table_view};
+ghost use Rattle.elf_abi.specs.Values.{sht_dynamic};
 ghost use Rattle.elf.specs.ElfBytes.{view};
 ghost use Rattle.elf.specs.Headers.{first_section_of};
 ghost use Rattle.elf.specs.ObjectFile.{object_file};
@@ -11,13 +8,14 @@ ghost use Rattle.elf_check.specs.Segments.{IsRangeOf, IsWhole, SoundDynamicSegme
 ghost use Rattle.elf_check.specs.SegmentsFaults.{IsTrueOfDynamic};
 
 use super::faults::SegmentFault;
+use crate::dynamic::has_null;
+use elf::ElfBytes;
 use elf::dynamic::{Dyn, DynamicTable};
 use elf::endian::EndianParse;
 use elf::file::Class;
 use elf::parse::ParseAt;
 use elf::section::SectionHeader;
 use elf::segment::ProgramHeader;
-use elf::{ElfBytes, abi};
 
 // Whether a segment is one of memory alone.
 pub(super) fn is_emptied(phdr: &ProgramHeader) -> bool
@@ -31,20 +29,6 @@ fn is_whole(class: Class, phdr: &ProgramHeader) -> bool
     ensures { IsTrue result ↔ IsWhole class phdr.now }
 {
     phdr.p_filesz % Dyn::size_for(class) as u64 == 0
-}
-
-// Whether an entry has the tag `DT_NULL`.
-fn is_null(entry: &Dyn) -> bool
-    ensures { result ≡ has_tag dt_null entry.now }
-{
-    entry.d_tag == abi::DT_NULL
-}
-
-// Whether one of the entries has the tag `DT_NULL`.
-fn has_null<E: EndianParse>(table: &DynamicTable<'_, E>) -> bool
-    ensures { result ≡ list_any (has_tag dt_null) (table_items dyn_reads (table_view table.now)) }
-{
-    table.iter().any(|entry| is_null(&entry))
 }
 
 // Whether the section, if there is one, has the bytes of a segment.

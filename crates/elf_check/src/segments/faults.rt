@@ -35,7 +35,7 @@ pub enum SegmentFault {
 }
 
 /// The name of a segment's type, or its number if it has no name.
-#[derive(Copy, Clone, Debug)]
+#[derive(Copy, Clone)]
 struct TypeName(u32);
 
 impl fmt::Display for TypeName {

@@ -1,7 +1,6 @@
 //! What a loader maps of a file that was checked.
-ghost use Rattle.std.specs.Prelude.{◌≡◌, ◌==◌};
+ghost use Rattle.std.specs.Prelude.{◌≡◌};
 ghost use Rattle.std.specs.Iterator.{YieldsFirstBy, item_count};
-ghost use Rattle.elf_abi.specs.Values.{pt_load};
 ghost use Rattle.elf_check.specs.LoadPlan.{IsPlan, load_plan};
 
 use super::iter::WholeSegmentsIter;
@@ -18,13 +17,6 @@ pub struct WholeLoads<'a, 'data, E: EndianParse> {
     segments: WholeSegmentsIter<'a, 'data, E>,
 }
 
-// Whether a segment is loaded.
-fn is_loaded(phdr: &ProgramHeader) -> bool
-    ensures { result ≡ (phdr.now.p_type == pt_load) }
-{
-    phdr.p_type == abi::PT_LOAD
-}
-
 impl<'a, 'data, E: EndianParse> Iterator for WholeLoads<'a, 'data, E> {
     type Item = (ProgramHeader, &'data [u8]);
 
@@ -38,7 +30,7 @@ impl<'a, 'data, E: EndianParse> Iterator for WholeLoads<'a, 'data, E> {
     fn next(&mut self) -> Option<(ProgramHeader, &'data [u8])> {
         for _ in 0..self.segments.len() {
             let found = self.segments.next()?;
-            if is_loaded(&found.0) {
+            if found.0.p_type == abi::PT_LOAD {
                 return Some(found);
             }
         }

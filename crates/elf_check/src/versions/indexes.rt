@@ -1,37 +1,12 @@
 //! The check of version indexes.
-ghost use Rattle.std.specs.Prelude.{◌≡◌, ◌<◌, ◌≤◌, ◌↔◌, ℕ, Ok, IsOk, MatchOption, is_some};
+ghost use Rattle.std.specs.Prelude.{◌≡◌, ◌<◌, ◌≤◌, ◌↔◌, ℕ, Ok, IsOk, MatchOption};
 ghost use Rattle.elf_parts.specs.gnu_symver.Table.{index_of};
-ghost use Rattle.elf_parts.specs.gnu_symver.VersionEntry.{defined_with, required_with};
 ghost use Rattle.elf_check.specs.inner.Kept.{AreSound};
 ghost use Rattle.elf_check.specs.versions.Indexes.{IsTrueOfFirst, SoundIndexes, count_with_index};
 
 use crate::faults::VersionsFault;
 use elf::endian::EndianParse;
 use elf::gnu_symver::{SymbolVersions, VersionIndex};
-
-// Whether the file defines a version with the index of a symbol.
-fn is_defined<E: EndianParse, V: SymbolVersions<E>>(
-    table: &V,
-    symbol: usize,
-    index: &VersionIndex,
-) -> bool
-    requires { index_of (V.versions table.now) symbol ≡ Ok index.now }
-    ensures { result ≡ is_some (defined_with (V.versions table.now).definitions index.now) }
-{
-    !matches!(table.get_definition(symbol), Ok(None))
-}
-
-// Whether the file needs a version with the index of a symbol.
-fn is_needed<E: EndianParse, V: SymbolVersions<E>>(
-    table: &V,
-    symbol: usize,
-    index: &VersionIndex,
-) -> bool
-    requires { index_of (V.versions table.now) symbol ≡ Ok index.now }
-    ensures { result ≡ is_some (required_with (V.versions table.now).needs index.now) }
-{
-    !matches!(table.get_requirement(symbol), Ok(None))
-}
 
 // How many versions have the index of a symbol.
 fn count_with_index<E: EndianParse, V: SymbolVersions<E>>(
@@ -46,8 +21,8 @@ fn count_with_index<E: EndianParse, V: SymbolVersions<E>>(
     if index.index() == 0 || index.index() == 1 {
         return 1;
     }
-    let is_defined = is_defined::<E, V>(table, symbol, index);
-    let is_needed = is_needed::<E, V>(table, symbol, index);
+    let is_defined = !matches!(table.get_definition(symbol), Ok(None));
+    let is_needed = !matches!(table.get_requirement(symbol), Ok(None));
     is_defined as usize + is_needed as usize
 }
 

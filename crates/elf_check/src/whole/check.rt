@@ -7,11 +7,11 @@ ghost use Rattle.elf_check.specs.Whole.{whole_view};
 use super::WholeFile;
 use crate::checking::fault_walk;
 use crate::faults::{FileFault, FileVerdict};
-use crate::listed::sections_are_listed;
 use crate::sections::section_count;
 use elf::ElfBytes;
 use elf::endian::EndianParse;
 use elf::gnu_symver::{Needed, VerDefIterator};
+use elf::readers::sections_are_listed;
 
 /// Checks whether a file is sound: whether what its headers declare can be read. Allocates nothing.
 ///

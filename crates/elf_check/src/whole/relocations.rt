@@ -8,11 +8,12 @@ ghost use Rattle.elf_check.specs.RelocationLists.{symbol_in, with_symbols};
 ghost use Rattle.elf_check.specs.Whole.{named_view};
 
 use super::symbols::WholeSymbols;
-use crate::relocations::{Relocation, record_below};
+use crate::relocations::record_below;
 use elf::endian::EndianParse;
 use elf::laws::lists::list_is_what_get_gives;
 use elf::laws::tables::iter_gives_len_records;
 use elf::parse::ParsingTable;
+use elf::relocation::Relocation;
 use elf::string_table::StringTable;
 use elf::symbol::{Symbol, SymbolTable};
 

@@ -12,13 +12,13 @@ use super::relocations::WholeRelocations;
 use super::section::WholeSection;
 use super::symbols::WholeSymbols;
 use crate::hashes::symbols_of;
-use crate::relocations::{Relocation, has_other_info};
+use crate::relocations::has_other_info;
 use elf::abi;
 use elf::endian::EndianParse;
 use elf::headers::Headers;
 use elf::laws::lists::list_is_what_get_gives;
 use elf::parse::ParsingTable;
-use elf::relocation::{Rel, Rela};
+use elf::relocation::{Rel, Rela, Relocation};
 use elf::symbol::Symbol;
 
 impl<'a, 'data, E: EndianParse> WholeSection<'a, 'data, E> {

@@ -6,8 +6,8 @@ ghost use Rattle.elf.specs.Answers.{section_header_by_name};
 
 use super::WholeFile;
 use super::section::WholeSection;
-use crate::listed::sections_are_listed;
 use elf::endian::EndianParse;
+use elf::readers::sections_are_listed;
 
 /// The sections of a file that was checked, in the order of their headers. After its first `None` it keeps returning
 /// `None`.

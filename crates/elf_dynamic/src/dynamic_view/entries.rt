@@ -104,6 +104,19 @@ pub fn value<E: EndianParse>(entries: &DynamicTable<'_, E>, tag: i64) -> Option<
     last_of(values(entries, tag))
 }
 
+/// Returns the value of a tag in copied entries, as `value` does in a table. The caller ends them before `DT_NULL`.
+pub fn value_in(entries: &[Dyn], tag: i64) -> Option<u64>
+    ensures { result ≡ value_of tag entries.now }
+{
+    let mut last = None;
+    for entry in entries {
+        if has_tag(entry, tag) {
+            last = Some(entry.d_val());
+        }
+    }
+    last
+}
+
 /// Returns the value of a tag that some entry has to have, as `value` does. The error is `NoEntry(tag)`, if none has it.
 pub fn required<E: EndianParse>(
     entries: &DynamicTable<'_, E>,

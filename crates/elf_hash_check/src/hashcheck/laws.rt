@@ -19,7 +19,7 @@ ghost use Rattle.elf_hash_check.specs.declared.hashcheck.HashFault.{HashFault};
 ghost use Rattle.elf_hash_check.specs.declared.hashcheck.reads.Reads.{Reads};
 
 use crate::hashcheck::{HashFault, HashKind, Reads};
-use elf_parts::laws::find::{gnu_words_can_be_read, sysv_words_can_be_read};
+use elf_parts::laws::find::words_can_be_read;
 
 /// On a sound GNU section `GnuHashTable::find`, with `hdr` as `new` left it, returns no error. It returns the least
 /// index with the name, or `None` exactly if no indexed symbol has it.
@@ -28,7 +28,7 @@ pub fn gnu_find_on_sound(section: &[u8])
         gnu_section little class section.now ≡ Ok s.table → SoundGnu s →
         IsOkAnd (gnu_find s.table s.symbols s.strings name) (IsLeastNamed s name) }
 {
-    gnu_words_can_be_read(section);
+    words_can_be_read(section);
 }
 
 /// On a sound SysV section `SysVHashTable::find` returns no error. It returns the first index with the name along
@@ -38,7 +38,7 @@ pub fn sysv_find_on_sound(section: &[u8])
         sysv_section little class section.now ≡ Ok s.table → SoundSysv s →
         IsOkAnd (sysv_find s.table s.symbols s.strings name) (IsFirstNamed s name) }
 {
-    sysv_words_can_be_read(section);
+    words_can_be_read(section);
 }
 
 /// A SysV section is sound exactly if the chain of each bucket has a 0, after at most as many indexes as there are
@@ -62,19 +62,12 @@ pub fn one_first_fault()
         one ≡ other }
 {}
 
-/// Two faults are equal exactly if they are the same fault with the same bucket and index.
-pub fn equal_hash_faults(a: HashFault, b: HashFault)
-    ensures { IsTrue (⟦<HashFault as PartialEq>⟧.eq a b) ↔ (a ≡ b) }
-{}
-
-/// Two kinds of hash sections are equal exactly if they are the same kind.
-pub fn equal_hash_sections(a: HashKind, b: HashKind)
-    ensures { IsTrue (⟦<HashKind as PartialEq>⟧.eq a b) ↔ (a ≡ b) }
-{}
-
-/// Two counts of reads are equal exactly if their numbers are.
-pub fn equal_reads(a: &Reads, b: &Reads)
-    ensures { IsTrue (⟦<Reads as PartialEq>⟧.eq a.now b.now) ↔ (read_count a.now ≡ read_count b.now) }
+/// Two faults are equal exactly if they are the same fault with the same bucket and index, two kinds of hash sections if
+/// they are the same kind, and two counts of reads if their numbers are.
+pub fn equal_values()
+    ensures fault { (a b : HashFault) → IsTrue (⟦<HashFault as PartialEq>⟧.eq a b) ↔ (a ≡ b) }
+    ensures kind { (a b : HashKind) → IsTrue (⟦<HashKind as PartialEq>⟧.eq a b) ↔ (a ≡ b) }
+    ensures reads { (a b : Reads) → IsTrue (⟦<Reads as PartialEq>⟧.eq a b) ↔ (read_count a ≡ read_count b) }
 {}
 
 /// The default count of reads is 0.

@@ -1,5 +1,5 @@
 //! The records of the version sections (GNU symbol versioning). They are the same in both classes.
-ghost use Rattle.std.specs.Prelude.{◌≡◌, ◌==◌, ◌+◌};
+ghost use Rattle.std.specs.Prelude.{◌≡◌, ◌==◌, ◌+◌, refl, true};
 ghost use Rattle.elf_abi.specs.Values.{ver_ndx_global, ver_ndx_local};
 ghost use Rattle.elf_parts.specs.gnu_symver.Links.{links_in, links_left, links_view};
 ghost use Rattle.elf_parts.specs.gnu_symver.Records.{version_index, version_is_hidden};
@@ -41,7 +41,13 @@ impl VerNeed {
 impl ParseAt for VerNeed {
     ghost use Rattle.elf_parts.specs.gnu_symver.Records.{ver_need_reads};
 
+    const SHAPE: (usize, usize, bool) = (16, 16, true);
+
+    ghost SHAPE = { (16, 16, true) };
+
     ghost reads = { ver_need_reads };
+
+    ghost shape_law = { refl };
 
     #[tactic(auto, unfolding(elf_records::specs::Record::numbers_at, elf_records::specs::Record::numbers_end))]
     #[inline(always)]
@@ -64,14 +70,6 @@ impl ParseAt for VerNeed {
             vn_aux: endian.parse_u32_at(offset, data)?,
             vn_next: endian.parse_u32_at(offset, data)?,
         })
-    }
-
-    fn size_for(_class: Class) -> usize {
-        16
-    }
-
-    fn is_local() -> bool {
-        true
     }
 }
 
@@ -113,7 +111,13 @@ pub struct VerNeedAux {
 impl ParseAt for VerNeedAux {
     ghost use Rattle.elf_parts.specs.gnu_symver.Records.{ver_need_aux_reads};
 
+    const SHAPE: (usize, usize, bool) = (16, 16, true);
+
+    ghost SHAPE = { (16, 16, true) };
+
     ghost reads = { ver_need_aux_reads };
+
+    ghost shape_law = { refl };
 
     #[tactic(auto, unfolding(elf_records::specs::Record::numbers_at, elf_records::specs::Record::numbers_end))]
     #[inline(always)]
@@ -130,14 +134,6 @@ impl ParseAt for VerNeedAux {
             vna_name: endian.parse_u32_at(offset, data)?,
             vna_next: endian.parse_u32_at(offset, data)?,
         })
-    }
-
-    fn size_for(_class: Class) -> usize {
-        16
-    }
-
-    fn is_local() -> bool {
-        true
     }
 }
 
@@ -182,7 +178,13 @@ impl VerDef {
 impl ParseAt for VerDef {
     ghost use Rattle.elf_parts.specs.gnu_symver.Records.{ver_def_reads};
 
+    const SHAPE: (usize, usize, bool) = (20, 20, true);
+
+    ghost SHAPE = { (20, 20, true) };
+
     ghost reads = { ver_def_reads };
+
+    ghost shape_law = { refl };
 
     #[tactic(auto, unfolding(elf_records::specs::Record::numbers_at, elf_records::specs::Record::numbers_end))]
     #[inline(always)]
@@ -207,14 +209,6 @@ impl ParseAt for VerDef {
             vd_aux: endian.parse_u32_at(offset, data)?,
             vd_next: endian.parse_u32_at(offset, data)?,
         })
-    }
-
-    fn size_for(_class: Class) -> usize {
-        20
-    }
-
-    fn is_local() -> bool {
-        true
     }
 }
 
@@ -253,7 +247,13 @@ pub struct VerDefAux {
 impl ParseAt for VerDefAux {
     ghost use Rattle.elf_parts.specs.gnu_symver.Records.{ver_def_aux_reads};
 
+    const SHAPE: (usize, usize, bool) = (8, 8, true);
+
+    ghost SHAPE = { (8, 8, true) };
+
     ghost reads = { ver_def_aux_reads };
+
+    ghost shape_law = { refl };
 
     #[tactic(auto, unfolding(elf_records::specs::Record::numbers_at, elf_records::specs::Record::numbers_end))]
     #[inline(always)]
@@ -267,14 +267,6 @@ impl ParseAt for VerDefAux {
             vda_name: endian.parse_u32_at(offset, data)?,
             vda_next: endian.parse_u32_at(offset, data)?,
         })
-    }
-
-    fn size_for(_class: Class) -> usize {
-        8
-    }
-
-    fn is_local() -> bool {
-        true
     }
 }
 
@@ -296,7 +288,13 @@ pub type VersionIndexTable<'data, E> = ParsingTable<'data, E, VersionIndex>;
 impl ParseAt for VersionIndex {
     ghost use Rattle.elf_parts.specs.gnu_symver.Records.{version_index_reads};
 
+    const SHAPE: (usize, usize, bool) = (2, 2, true);
+
+    ghost SHAPE = { (2, 2, true) };
+
     ghost reads = { version_index_reads };
+
+    ghost shape_law = { refl };
 
     #[tactic(auto, unfolding(elf_records::specs::Record::numbers_at, elf_records::specs::Record::numbers_end))]
     #[inline(always)]
@@ -307,14 +305,6 @@ impl ParseAt for VersionIndex {
         data: &[u8],
     ) -> Result<Self, ParseError> {
         Ok(VersionIndex(endian.parse_u16_at(offset, data)?))
-    }
-
-    fn size_for(_class: Class) -> usize {
-        2
-    }
-
-    fn is_local() -> bool {
-        true
     }
 }
 

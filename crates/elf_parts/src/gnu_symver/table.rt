@@ -31,6 +31,7 @@ use crate::string_table::StringTable;
 pub use indexed::IndexedVersions;
 pub use look_up::SymbolVersions;
 pub use placed::PlacedVersions;
+use placed::{definition_by_places, requirement_by_places};
 pub use walked::{NeedPlace, hold_needs};
 
 /// The version of a symbol that another file must have: the name of that file, the name, the hash and the flags of
@@ -112,7 +113,8 @@ fn version_with<E: EndianParse>(
     None
 }
 
-/// Returns the first needed version with an index, and the need that it belongs to.
+/// Returns the first needed version with an index, and the need that it belongs to. Returns `None` if no version of a
+/// need has this index.
 #[tactic(auto, using(crate::proofs::Versions::needed))]
 pub fn first_needed<E: EndianParse>(
     needs: VerNeedIterator<'_, E>,
@@ -163,16 +165,6 @@ fn next_defined<'data, E: EndianParse>(
         }
     }
     None
-}
-
-// The first definition with this index, and its names.
-fn first_defined<'data, E: EndianParse>(
-    definitions: VerDefIterator<'data, E>,
-    index: u16,
-) -> Option<(VerDef, VerDefAuxIterator<'data, E>)>
-    ensures { option_map ver_def_view result ≡ defined_version index (ver_defs_left definitions.entry) }
-{
-    next_defined(skip_to_defined(definitions, index), index)
 }
 
 /// What the records of a needed version say of it, the names as offsets in bytes.
@@ -302,15 +294,7 @@ impl<'data, E: EndianParse> SymbolVersionTable<'data, E> {
     ) -> Result<Option<SymbolRequirement<'_>>, ParseError>
         ensures { GivesRequirement (requirement (versions_view self.now) symbol) result }
     {
-        let Some((needs, strings)) = self.needs else {
-            return Ok(None);
-        };
-        let index = self.indexes.get(symbol)?;
-        let Some((need, version)) = first_needed(needs, index.index()) else {
-            return Ok(None);
-        };
-        let needed = needed_entry(need.vn_file, &version);
-        Ok(Some(read_requirement(strings, needed, index.is_hidden())?))
+        requirement_by_places(self, &[], symbol)
     }
 
     /// Returns the version with which a symbol, counted from 0 among the dynamic symbols, is defined. Returns `None` if
@@ -332,13 +316,6 @@ impl<'data, E: EndianParse> SymbolVersionTable<'data, E> {
         ensures value { ok_map (option_map definition_view) result ≡ definition (versions_view self.now) symbol }
         ensures few { HasFewNames result }
     {
-        let Some((definitions, strings)) = &self.definitions else {
-            return Ok(None);
-        };
-        let index = self.indexes.get(symbol)?;
-        let Some((definition, names)) = first_defined(*definitions, index.index()) else {
-            return Ok(None);
-        };
-        Ok(Some(read_definition(strings, definition, names, index.is_hidden())))
+        definition_by_places(self, &[], symbol)
     }
 }

@@ -1,5 +1,5 @@
 //! GNU hash sections.
-ghost use Rattle.std.specs.Prelude.{◌≡◌, ◌-◌, ◌%◌, ◌<◌, ◌≤◌, ℕ, IfNone, IfSome, IsErr, List, None, Ok, true};
+ghost use Rattle.std.specs.Prelude.{◌≡◌, ◌-◌, ◌%◌, ◌<◌, ◌≤◌, ℕ, IfNone, IfSome, IsErr, List, None, Ok, true, refl};
 ghost use Rattle.elf_records.specs.Class.{address_bits};
 ghost use Rattle.elf_parts.specs.GnuFind.{bloom_word, find_by_hash, find_in_run, gnu_find, gnu_of_parts, gnu_section};
 ghost use Rattle.elf_parts.specs.GnuFind.{excludes, gnu_view, passes, word_decides};
@@ -38,7 +38,13 @@ pub struct GnuHashHeader {
 impl ParseAt for GnuHashHeader {
     ghost use Rattle.elf_parts.specs.Hash.{gnu_header_reads};
 
+    const SHAPE: (usize, usize, bool) = (16, 16, true);
+
+    ghost SHAPE = { (16, 16, true) };
+
     ghost reads = { gnu_header_reads };
+
+    ghost shape_law = { refl };
 
     #[tactic(auto, unfolding(elf_records::specs::Record::numbers_at, elf_records::specs::Record::numbers_end))]
     fn parse_at<E: EndianParse>(
@@ -53,14 +59,6 @@ impl ParseAt for GnuHashHeader {
             nbloom: endian.parse_u32_at(offset, data)?,
             nshift: endian.parse_u32_at(offset, data)?,
         })
-    }
-
-    fn size_for(class: Class) -> usize {
-        16
-    }
-
-    fn is_local() -> bool {
-        true
     }
 }
 

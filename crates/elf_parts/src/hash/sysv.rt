@@ -1,5 +1,5 @@
 //! SysV hash sections (gABI, chapter "Hash Table").
-ghost use Rattle.std.specs.Prelude.{◌≡◌, ◌%◌, ◌^◌, IfNone, IfSome, IsErr, Ok};
+ghost use Rattle.std.specs.Prelude.{◌≡◌, ◌%◌, ◌^◌, IfNone, IfSome, IsErr, Ok, refl, true};
 ghost use Rattle.elf_parts.specs.Hash.{hash_fold, sysv_hash_of, word_count};
 ghost use Rattle.elf_records.specs.Number.{ok_map};
 ghost use Rattle.elf_records.specs.StringTable.{strings_view};
@@ -24,7 +24,13 @@ pub struct SysVHashHeader {
 impl ParseAt for SysVHashHeader {
     ghost use Rattle.elf_parts.specs.Hash.{sysv_header_reads};
 
+    const SHAPE: (usize, usize, bool) = (8, 8, true);
+
+    ghost SHAPE = { (8, 8, true) };
+
     ghost reads = { sysv_header_reads };
+
+    ghost shape_law = { refl };
 
     #[tactic(auto, unfolding(elf_records::specs::Record::numbers_at, elf_records::specs::Record::numbers_end))]
     fn parse_at<E: EndianParse>(
@@ -37,14 +43,6 @@ impl ParseAt for SysVHashHeader {
             nbucket: endian.parse_u32_at(offset, data)?,
             nchain: endian.parse_u32_at(offset, data)?,
         })
-    }
-
-    fn size_for(class: Class) -> usize {
-        8
-    }
-
-    fn is_local() -> bool {
-        true
     }
 }
 

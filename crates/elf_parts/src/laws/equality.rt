@@ -2,18 +2,10 @@
 ghost use Rattle.std.specs.Prelude.{◌≡◌, ◌↔◌, IsTrue};
 
 use crate::hash::{GnuHashHeader, SysVHashHeader};
-pub use elf_records::laws::equality::{
-    equal_classes, equal_compression_headers, equal_dynamic_entries, equal_file_headers,
-    equal_orders, equal_program_headers, equal_relas, equal_rels, equal_section_headers,
-    equal_symbols,
-};
+pub use elf_records::laws::equality::equal_records;
 
-/// Two headers of SysV hash sections are equal exactly if all their fields are.
-pub fn equal_sysv_hash_headers(a: &SysVHashHeader, b: &SysVHashHeader)
-    ensures { IsTrue (⟦<SysVHashHeader as PartialEq>⟧.eq a.now b.now) ↔ (a.now ≡ b.now) }
-{}
-
-/// Two headers of GNU hash sections are equal exactly if all their fields are.
-pub fn equal_gnu_hash_headers(a: &GnuHashHeader, b: &GnuHashHeader)
-    ensures { IsTrue (⟦<GnuHashHeader as PartialEq>⟧.eq a.now b.now) ↔ (a.now ≡ b.now) }
+/// Two headers of hash sections of one kind are equal exactly if all their fields are.
+pub fn equal_hash_headers()
+    ensures sysv { (a b : SysVHashHeader) → IsTrue (⟦<SysVHashHeader as PartialEq>⟧.eq a b) ↔ (a ≡ b) }
+    ensures gnu { (a b : GnuHashHeader) → IsTrue (⟦<GnuHashHeader as PartialEq>⟧.eq a b) ↔ (a ≡ b) }
 {}

@@ -26,17 +26,12 @@ impl PlainRecord for GnuHashHeader {
     ghost wherever = { wherever_by gnu_header_layout refl };
 }
 
-/// If a look-up in a SysV section returns a symbol, this is the symbol at the returned index, and it has the
+/// If a look-up in a SysV or in a GNU section returns a symbol, this is the symbol at the returned index, and it has the
 /// requested name.
-pub fn sysv_find_gives_named()
-    ensures { (t : SysvTable) (symbols : Table) (strings name : List ℕ) (found : ℕ × Symbol) →
+pub fn find_gives_named()
+    ensures sysv { (t : SysvTable) (symbols : Table) (strings name : List ℕ) (found : ℕ × Symbol) →
         sysv_find t symbols strings name ≡ Ok (Some found) → IsNamed symbols strings name found }
-{}
-
-/// If a look-up in a GNU section returns a symbol, this is the symbol at the returned index, and it has the
-/// requested name.
-pub fn gnu_find_gives_named()
-    ensures { (t : GnuTable) (symbols : Table) (strings name : List ℕ) (found : ℕ × Symbol) →
+    ensures gnu { (t : GnuTable) (symbols : Table) (strings name : List ℕ) (found : ℕ × Symbol) →
         gnu_find t symbols strings name ≡ Ok (Some found) → IsNamed symbols strings name found }
 {}
 
@@ -47,19 +42,12 @@ pub fn words_read_below_count<E: EndianParse>(words: &ParsingTable<'_, E, u32>)
     let _ = words.len();
 }
 
-/// In a table that `SysVHashTable::new` made, the buckets and the chain words can be read exactly below their
-/// counts.
-pub fn sysv_words_can_be_read(section: &[u8])
-    ensures { (little : Bool) (class : Class) (t : SysvTable) → sysv_section little class section.now ≡ Ok t →
+/// In a table that `SysVHashTable::new` or `GnuHashTable::new` made, the buckets and the chain words can be read exactly
+/// below their counts, and in one of the latter each bloom word that the header counts can be read.
+pub fn words_can_be_read(section: &[u8])
+    ensures sysv { (little : Bool) (class : Class) (t : SysvTable) → sysv_section little class section.now ≡ Ok t →
         ReadsBelowCount t.buckets × ReadsBelowCount t.chains }
-{
-    let _ = section.len();
-}
-
-/// In a table that `GnuHashTable::new` made, the buckets and the chain words can be read exactly below their
-/// counts, and each bloom word that the header counts can be read.
-pub fn gnu_words_can_be_read(section: &[u8])
-    ensures { (little : Bool) (class : Class) (t : GnuTable) → gnu_section little class section.now ≡ Ok t →
+    ensures gnu { (little : Bool) (class : Class) (t : GnuTable) → gnu_section little class section.now ≡ Ok t →
         ReadsBelowCount t.buckets × ReadsBelowCount t.chains × ReadsBloom t }
 {
     let _ = section.len();

@@ -33,25 +33,14 @@ impl PlainRecord for NoteGnuAbiTag {
     ghost wherever = { wherever_by abi_tag_layout refl };
 }
 
-/// Two ABI tags are equal exactly if all their fields are.
-pub fn equal_abi_tags(a: &NoteGnuAbiTag, b: &NoteGnuAbiTag)
-    ensures { IsTrue (⟦<NoteGnuAbiTag as PartialEq>⟧.eq a.now b.now) ↔ (a.now ≡ b.now) }
-{}
-
-/// Two build ids are equal exactly if they have the same bytes.
-pub fn equal_build_ids(a: &NoteGnuBuildId<'_>, b: &NoteGnuBuildId<'_>)
-    ensures { IsTrue (⟦<NoteGnuBuildId<'static> as PartialEq>⟧.eq a.now b.now) ↔ (a.now.0.now ≡ b.now.0.now) }
-{}
-
-/// Two notes of other kinds are equal exactly if their types, the bytes of their names and the bytes of their
-/// descriptors are.
-pub fn equal_other_notes(a: &NoteAny<'_>, b: &NoteAny<'_>)
-    ensures { IsTrue (⟦<NoteAny<'static> as PartialEq>⟧.eq a.now b.now)
-        ↔ ((a.now.n_type ≡ b.now.n_type) × (a.now.name.now ≡ b.now.name.now) × (a.now.desc.now ≡ b.now.desc.now)) }
-{}
-
 /// Two notes are equal exactly if they have the same content: the same ABI tag, the same build id, or the same
-/// type, name and descriptor.
-pub fn equal_notes(a: &Note<'_>, b: &Note<'_>)
-    ensures { IsTrue (⟦<Note<'static> as PartialEq>⟧.eq a.now b.now) ↔ (note_view a.now ≡ note_view b.now) }
+/// type, name and descriptor. Two ABI tags are equal exactly if all their fields are, two build ids if they have the
+/// same bytes, and two notes of other kinds if their types, the bytes of their names and those of their descriptors are.
+pub fn equal_notes()
+    ensures abi_tags { (a b : NoteGnuAbiTag) → IsTrue (⟦<NoteGnuAbiTag as PartialEq>⟧.eq a b) ↔ (a ≡ b) }
+    ensures build_ids { (a b : NoteGnuBuildId) →
+        IsTrue (⟦<NoteGnuBuildId<'static> as PartialEq>⟧.eq a b) ↔ (a.0.now ≡ b.0.now) }
+    ensures others { (a b : NoteAny) → IsTrue (⟦<NoteAny<'static> as PartialEq>⟧.eq a b)
+        ↔ ((a.n_type ≡ b.n_type) × (a.name.now ≡ b.name.now) × (a.desc.now ≡ b.desc.now)) }
+    ensures notes { (a b : Note) → IsTrue (⟦<Note<'static> as PartialEq>⟧.eq a b) ↔ (note_view a ≡ note_view b) }
 {}

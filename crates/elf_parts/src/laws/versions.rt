@@ -70,34 +70,16 @@ impl PlainRecord for VersionIndex {
     ghost wherever = { wherever_by version_index_layout refl };
 }
 
-/// Two needs are equal exactly if all their fields are.
-pub fn equal_ver_needs(a: &VerNeed, b: &VerNeed)
-    ensures { IsTrue (⟦<VerNeed as PartialEq>⟧.eq a.now b.now) ↔ (a.now ≡ b.now) }
-{}
-
-/// Two needed versions are equal exactly if all their fields are.
-pub fn equal_ver_need_auxs(a: &VerNeedAux, b: &VerNeedAux)
-    ensures { IsTrue (⟦<VerNeedAux as PartialEq>⟧.eq a.now b.now) ↔ (a.now ≡ b.now) }
-{}
-
-/// Two definitions are equal exactly if all their fields are.
-pub fn equal_ver_defs(a: &VerDef, b: &VerDef)
-    ensures { IsTrue (⟦<VerDef as PartialEq>⟧.eq a.now b.now) ↔ (a.now ≡ b.now) }
-{}
-
-/// Two names of definitions are equal exactly if all their fields are.
-pub fn equal_ver_def_auxs(a: &VerDefAux, b: &VerDefAux)
-    ensures { IsTrue (⟦<VerDefAux as PartialEq>⟧.eq a.now b.now) ↔ (a.now ≡ b.now) }
-{}
-
-/// Two version indexes are equal exactly if their numbers are.
-pub fn equal_version_indexes(a: &VersionIndex, b: &VersionIndex)
-    ensures { IsTrue (⟦<VersionIndex as PartialEq>⟧.eq a.now b.now) ↔ (a.now ≡ b.now) }
-{}
-
-/// Two requirements are equal exactly if their names have the same bytes and all their other fields are equal.
-pub fn equal_requirements(a: &SymbolRequirement<'_>, b: &SymbolRequirement<'_>)
-    ensures { IsTrue (⟦<SymbolRequirement<'static> as PartialEq>⟧.eq a.now b.now)
-        ↔ ((a.now.file.now ≡ b.now.file.now) × (a.now.name.now ≡ b.now.name.now) × (a.now.hash ≡ b.now.hash)
-        × (a.now.flags ≡ b.now.flags) × (a.now.hidden ≡ b.now.hidden)) }
+/// Two needs, needed versions, definitions, names of definitions or version indexes are equal exactly if all their
+/// fields are. Two requirements are equal exactly if their names have the same bytes and all their other fields are
+/// equal.
+pub fn equal_versions()
+    ensures needs { (a b : VerNeed) → IsTrue (⟦<VerNeed as PartialEq>⟧.eq a b) ↔ (a ≡ b) }
+    ensures need_auxs { (a b : VerNeedAux) → IsTrue (⟦<VerNeedAux as PartialEq>⟧.eq a b) ↔ (a ≡ b) }
+    ensures definitions { (a b : VerDef) → IsTrue (⟦<VerDef as PartialEq>⟧.eq a b) ↔ (a ≡ b) }
+    ensures def_auxs { (a b : VerDefAux) → IsTrue (⟦<VerDefAux as PartialEq>⟧.eq a b) ↔ (a ≡ b) }
+    ensures indexes { (a b : VersionIndex) → IsTrue (⟦<VersionIndex as PartialEq>⟧.eq a b) ↔ (a ≡ b) }
+    ensures requirements { (a b : SymbolRequirement) → IsTrue (⟦<SymbolRequirement<'static> as PartialEq>⟧.eq a b)
+        ↔ ((a.file.now ≡ b.file.now) × (a.name.now ≡ b.name.now) × (a.hash ≡ b.hash)
+        × (a.flags ≡ b.flags) × (a.hidden ≡ b.hidden)) }
 {}

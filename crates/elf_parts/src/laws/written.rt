@@ -32,128 +32,42 @@ ghost use Rattle.elf_parts.specs.declared.gnu_symver.records.VerDefAux.{VerDefAu
 ghost use Rattle.elf_parts.specs.declared.gnu_symver.records.VerNeed.{VerNeed as IsVerNeed};
 ghost use Rattle.elf_parts.specs.declared.gnu_symver.records.VerNeedAux.{VerNeedAux as IsVerNeedAux};
 
-/// A number that fits the width is read from its bytes in either order, and these bytes are as many as the width.
-#[tactic(auto, using(crate::proofs::ReadBack::number_bytes_of, crate::proofs::ReadBack::length_bytes_of))]
+/// A number that fits the width is read from its bytes in either order, and these bytes are as many as the width. A
+/// signed number that fits the width is read from its two's complement, which fits the width too.
+#[tactic(auto, using(crate::proofs::ReadBack::number_bytes_of, crate::proofs::ReadBack::length_bytes_of, crate::proofs::ReadBack::signed_number_complement, crate::proofs::ReadBack::complement_lt))]
 pub fn numbers_are_read_back()
     ensures value { (little : Bool) (width n : ℕ) → n < 256 ^ width → number little (bytes_of little width n) ≡ n }
     ensures width { (little : Bool) (width n : ℕ) → length (bytes_of little width n) ≡ width }
-{}
-
-/// A signed number that fits the width is read from its two's complement, which fits the width too.
-#[tactic(auto, using(crate::proofs::ReadBack::signed_number_complement, crate::proofs::ReadBack::complement_lt))]
-pub fn signed_numbers_are_read_back()
-    ensures value { (width : ℕ) (z : ℤ) → 0 < width → FitsSigned width z →
+    ensures signed { (width : ℕ) (z : ℤ) → 0 < width → FitsSigned width z →
         signed_number width (complement width z) ≡ z }
-    ensures fits { (width : ℕ) (z : ℤ) → 0 < width → FitsSigned width z → complement width z < 256 ^ width }
+    ensures complement { (width : ℕ) (z : ℤ) → 0 < width → FitsSigned width z → complement width z < 256 ^ width }
 {}
 
-// ---- structures
-
-/// A section header whose fields fit is read from the bytes of its C structure, in both classes and byte orders,
-/// wherever they lie below 2^64. The structure has the size of the record; a table of structures is read as exactly
-/// these records; equal bytes are of equal records; and each place in the field table is the sum of the widths
-/// before it.
-#[tactic(auto, using(crate::proofs::ReadStructs::section_header_is_struct))]
-pub fn section_headers_are_read_back()
-    ensures { IsStruct section_header_layout section_header_struct }
-{}
-
-/// Program headers are read back, in the sense of `section_headers_are_read_back`.
-#[tactic(auto, using(crate::proofs::ReadStructs::program_header_is_struct))]
-pub fn program_headers_are_read_back()
-    ensures { IsStruct program_header_layout program_header_struct }
-{}
-
-/// Symbols are read back, in the sense of `section_headers_are_read_back`.
-#[tactic(auto, using(crate::proofs::ReadStructs::symbol_is_struct))]
-pub fn symbols_are_read_back()
-    ensures { IsStruct symbol_layout symbol_struct }
-{}
-
-/// Relocations without an addend are read back, in the sense of `section_headers_are_read_back`.
-#[tactic(auto, using(crate::proofs::ReadStructs::rel_is_struct))]
-pub fn rels_are_read_back()
-    ensures { IsStruct rel_layout rel_struct }
-{}
-
-/// Relocations with an addend are read back, in the sense of `section_headers_are_read_back`.
-#[tactic(auto, using(crate::proofs::ReadStructs::rela_is_struct))]
-pub fn relas_are_read_back()
-    ensures { IsStruct rela_layout rela_struct }
-{}
-
-/// Dynamic entries are read back, in the sense of `section_headers_are_read_back`.
-#[tactic(auto, using(crate::proofs::ReadStructs::dyn_is_struct))]
-pub fn dynamic_entries_are_read_back()
-    ensures { IsStruct dyn_layout dyn_struct }
-{}
-
-/// Headers of notes are read back, in the sense of `section_headers_are_read_back`.
-#[tactic(auto, using(crate::proofs::ReadStructs::note_header_is_struct))]
-pub fn note_headers_are_read_back()
-    ensures { IsStruct note_header_layout (λ _. note_header_struct) }
-{}
-
-/// ABI tags are read back, in the sense of `section_headers_are_read_back`.
-#[tactic(auto, using(crate::proofs::ReadStructs::abi_tag_is_struct))]
-pub fn abi_tags_are_read_back()
-    ensures { IsStruct abi_tag_layout (λ _. abi_tag_struct) }
-{}
-
-/// Needs are read back, in the sense of `section_headers_are_read_back`.
-#[tactic(auto, using(crate::proofs::ReadStructs::ver_need_is_struct))]
-pub fn ver_needs_are_read_back()
-    ensures { IsStruct ver_need_layout (λ _. ver_need_struct) }
-{}
-
-/// Needed versions are read back, in the sense of `section_headers_are_read_back`.
-#[tactic(auto, using(crate::proofs::ReadStructs::ver_need_aux_is_struct))]
-pub fn ver_need_auxs_are_read_back()
-    ensures { IsStruct ver_need_aux_layout (λ _. ver_need_aux_struct) }
-{}
-
-/// Definitions of versions are read back, in the sense of `section_headers_are_read_back`.
-#[tactic(auto, using(crate::proofs::ReadStructs::ver_def_is_struct))]
-pub fn ver_defs_are_read_back()
-    ensures { IsStruct ver_def_layout (λ _. ver_def_struct) }
-{}
-
-/// Names of definitions are read back, in the sense of `section_headers_are_read_back`.
-#[tactic(auto, using(crate::proofs::ReadStructs::ver_def_aux_is_struct))]
-pub fn ver_def_auxs_are_read_back()
-    ensures { IsStruct ver_def_aux_layout (λ _. ver_def_aux_struct) }
-{}
-
-/// Version indexes are read back, in the sense of `section_headers_are_read_back`.
-#[tactic(auto, using(crate::proofs::ReadStructs::version_index_is_struct))]
-pub fn version_indexes_are_read_back()
-    ensures { IsStruct version_index_layout (λ _. version_index_struct) }
-{}
-
-/// Headers of SysV hash sections are read back, in the sense of `section_headers_are_read_back`.
-#[tactic(auto, using(crate::proofs::ReadStructs::sysv_header_is_struct))]
-pub fn sysv_headers_are_read_back()
-    ensures { IsStruct sysv_header_layout (λ _. sysv_header_struct) }
-{}
-
-/// Headers of GNU hash sections are read back, in the sense of `section_headers_are_read_back`.
-#[tactic(auto, using(crate::proofs::ReadStructs::gnu_header_is_struct))]
-pub fn gnu_headers_are_read_back()
-    ensures { IsStruct gnu_header_layout (λ _. gnu_header_struct) }
-{}
-
-/// Compression headers are read back, whatever the reserved word is, in the sense of `section_headers_are_read_back`.
-#[tactic(auto, using(crate::proofs::ReadStructs::compression_header_is_struct))]
-pub fn compression_headers_are_read_back()
-    ensures { (reserved : ℕ) → IsStruct compression_header_layout (compression_header_struct reserved) }
-{}
-
-/// Words of four and of eight bytes, as hash sections have them, are read back, in the sense of
-/// `section_headers_are_read_back`.
-#[tactic(auto, using(crate::proofs::ReadStructs::u32_is_struct, crate::proofs::ReadStructs::u64_is_struct))]
-pub fn words_are_read_back()
-    ensures four { IsStruct u32_layout (λ _ n. word n ∷ []) }
-    ensures eight { IsStruct u64_layout (λ _ n. xword n ∷ []) }
+/// A record whose fields fit is read from the bytes of its C structure, in both classes and byte orders, wherever they
+/// lie below 2^64. The structure has the size of the record; a table of structures is read as exactly these records;
+/// equal bytes are of equal records; and each place in the field table is the sum of the widths before it. A
+/// compression header is so whatever its reserved word is. Words are those of four and of eight bytes that hash
+/// sections have.
+pub fn records_are_read_back()
+    ensures section_header { IsStruct section_header_layout section_header_struct }
+    ensures program_header { IsStruct program_header_layout program_header_struct }
+    ensures symbol { IsStruct symbol_layout symbol_struct }
+    ensures rel { IsStruct rel_layout rel_struct }
+    ensures rela { IsStruct rela_layout rela_struct }
+    ensures dynamic { IsStruct dyn_layout dyn_struct }
+    ensures note_header { IsStruct note_header_layout (λ _. note_header_struct) }
+    ensures abi_tag { IsStruct abi_tag_layout (λ _. abi_tag_struct) }
+    ensures ver_need { IsStruct ver_need_layout (λ _. ver_need_struct) }
+    ensures ver_need_aux { IsStruct ver_need_aux_layout (λ _. ver_need_aux_struct) }
+    ensures ver_def { IsStruct ver_def_layout (λ _. ver_def_struct) }
+    ensures ver_def_aux { IsStruct ver_def_aux_layout (λ _. ver_def_aux_struct) }
+    ensures version_index { IsStruct version_index_layout (λ _. version_index_struct) }
+    ensures sysv_header { IsStruct sysv_header_layout (λ _. sysv_header_struct) }
+    ensures gnu_header { IsStruct gnu_header_layout (λ _. gnu_header_struct) }
+    ensures compression_header { (reserved : ℕ) →
+        IsStruct compression_header_layout (compression_header_struct reserved) }
+    ensures u32 { IsStruct u32_layout (λ _ n. word n ∷ []) }
+    ensures u64 { IsStruct u64_layout (λ _ n. xword n ∷ []) }
 {}
 
 /// The tail of a file header whose fields fit, at the front of the bytes, is read as that header. It has the size
@@ -168,44 +82,25 @@ pub fn tails_are_read_back<E>()
     ensures places { (class : Class) → PlacesAreSums (tail_fields class) }
 {}
 
-// ---- strings
-
+/// Lists of names, of notes, of needs and of definitions are read back.
+///
 /// In a string table of names, each followed by a 0 byte, the offset of a name reads as the name, and an offset
-/// within it as the rest of it. Only what is read must have no 0 byte: a string ends at its first.
-#[tactic(auto, using(crate::proofs::ReadStrings::name_read_back))]
-pub fn names_are_read_back()
-    ensures { (before after : List (List ℕ)) (head text rest : List ℕ) → HasNoNul text →
+/// within it as the rest of it. Only what is read must have no 0 byte: a string ends at its first. Notes whose numbers
+/// fit, laid out by the gABI's rule (header, name, padding, descriptor, padding), are read as exactly these notes, for
+/// every alignment but 0. Needs and definitions that are linked by their distances, wherever they lie in the bytes, are
+/// read as these, each with its versions or its names. The bytes of all but names are fewer than 2^64.
+#[tactic(auto, using(crate::proofs::ReadStrings::name_read_back, crate::proofs::ReadNotes::notes_read_back, crate::proofs::ReadChains::needs_read_back, crate::proofs::ReadChains::definitions_read_back))]
+pub fn lists_are_read_back()
+    ensures names { (before after : List (List ℕ)) (head text rest : List ℕ) → HasNoNul text →
         string_at (strings_of (before ++ (head ++ text) ∷ after) ++ rest) (length (strings_of before) + length head)
         ≡ Ok text }
-{}
-
-// ---- notes
-
-/// Notes whose numbers fit, laid out by the gABI's rule (header, name, padding, descriptor, padding), are read as
-/// exactly these notes, for every alignment but 0. The bytes are fewer than 2^64.
-#[tactic(auto, using(crate::proofs::ReadNotes::notes_read_back))]
-pub fn notes_are_read_back()
-    ensures { (little : Bool) (align : ℕ) (notes : List NoteContent) → 0 < align → NotesFit notes →
+    ensures notes { (little : Bool) (align : ℕ) (notes : List NoteContent) → 0 < align → NotesFit notes →
         length (notes_bytes little align 0 notes) < 2 ^ 64 →
         notes_in little align (notes_bytes little align 0 notes) ≡ notes }
-{}
-
-// ---- needs and definitions
-
-/// Needs that are linked by their distances, wherever they lie in the bytes, are read as these needs, each with its
-/// versions. The bytes are fewer than 2^64.
-#[tactic(auto, using(crate::proofs::ReadChains::needs_read_back))]
-pub fn needs_are_read_back()
-    ensures { (little : Bool) (class : Class) (bytes : List ℕ) → length bytes < 2 ^ 64 →
+    ensures needs { (little : Bool) (class : Class) (bytes : List ℕ) → length bytes < 2 ^ 64 →
         (needs : List (IsVerNeed × List IsVerNeedAux)) (start : ℕ) → NeedsAreChained little bytes start needs →
         ver_needs (table_in little class bytes) (length needs) start ≡ needs }
-{}
-
-/// Definitions that are linked by their distances, wherever they lie in the bytes, are read as these definitions,
-/// each with its names. The bytes are fewer than 2^64.
-#[tactic(auto, using(crate::proofs::ReadChains::definitions_read_back))]
-pub fn definitions_are_read_back()
-    ensures { (little : Bool) (class : Class) (bytes : List ℕ) → length bytes < 2 ^ 64 →
+    ensures definitions { (little : Bool) (class : Class) (bytes : List ℕ) → length bytes < 2 ^ 64 →
         (definitions : List (IsVerDef × List IsVerDefAux)) (start : ℕ) →
         DefinitionsAreChained little bytes start definitions →
         ver_defs (table_in little class bytes) (length definitions) start ≡ definitions }

@@ -12,39 +12,23 @@ use crate::segment::ProgramHeader;
 use crate::string_table::StringTable;
 use crate::symbol::Symbol;
 
-/// The clone of a class or of a byte order is the same value, and cloning it cannot fail.
-pub fn clones_of_kinds()
+/// The clone of a value of each of these types is the same value, and cloning it cannot fail.
+pub fn clones_of_records<E: EndianParse, P: ParseAt>()
     ensures class { ClonesExactly ⟦<Class as Clone>⟧.is_clone ⟦<Class as Clone>⟧.is_infallible }
     ensures either { ClonesExactly ⟦<AnyEndian as Clone>⟧.is_clone ⟦<AnyEndian as Clone>⟧.is_infallible }
     ensures little { ClonesExactly ⟦<LittleEndian as Clone>⟧.is_clone ⟦<LittleEndian as Clone>⟧.is_infallible }
     ensures big { ClonesExactly ⟦<BigEndian as Clone>⟧.is_clone ⟦<BigEndian as Clone>⟧.is_infallible }
-{}
-
-/// The clone of a file header, section header, program header or compression header is the same value, and cloning it
-/// cannot fail.
-pub fn clones_of_headers<E: EndianParse>()
     ensures file { ClonesExactly ⟦<FileHeader<E> as Clone>⟧.is_clone ⟦<FileHeader<E> as Clone>⟧.is_infallible }
     ensures section { ClonesExactly ⟦<SectionHeader as Clone>⟧.is_clone ⟦<SectionHeader as Clone>⟧.is_infallible }
     ensures program { ClonesExactly ⟦<ProgramHeader as Clone>⟧.is_clone ⟦<ProgramHeader as Clone>⟧.is_infallible }
     ensures compression { ClonesExactly
         ⟦<CompressionHeader as Clone>⟧.is_clone ⟦<CompressionHeader as Clone>⟧.is_infallible }
-{}
-
-/// The clone of a symbol, a relocation or a dynamic entry is the same value, and cloning it cannot fail.
-pub fn clones_of_records()
     ensures symbol { ClonesExactly ⟦<Symbol as Clone>⟧.is_clone ⟦<Symbol as Clone>⟧.is_infallible }
     ensures rel { ClonesExactly ⟦<Rel as Clone>⟧.is_clone ⟦<Rel as Clone>⟧.is_infallible }
     ensures rela { ClonesExactly ⟦<Rela as Clone>⟧.is_clone ⟦<Rela as Clone>⟧.is_infallible }
     ensures entry { ClonesExactly ⟦<Dyn as Clone>⟧.is_clone ⟦<Dyn as Clone>⟧.is_infallible }
-{}
-
-/// The clone of a string table is the same value, and cloning it cannot fail.
-pub fn clones_of_strings()
-    ensures { ClonesExactly ⟦<StringTable<'static> as Clone>⟧.is_clone ⟦<StringTable<'static> as Clone>⟧.is_infallible }
-{}
-
-/// The clone of a table of records is the same value, and cloning it cannot fail.
-pub fn clones_of_tables<E: EndianParse, P: ParseAt>()
-    ensures { ClonesExactly
+    ensures strings { ClonesExactly
+        ⟦<StringTable<'static> as Clone>⟧.is_clone ⟦<StringTable<'static> as Clone>⟧.is_infallible }
+    ensures tables { ClonesExactly
         ⟦<ParsingTable<'static, E, P> as Clone>⟧.is_clone ⟦<ParsingTable<'static, E, P> as Clone>⟧.is_infallible }
 {}

@@ -76,7 +76,7 @@ pub fn read_quickly<P: ParseAt>(little: bool, class: Class, offset: usize, data:
     ensures within { IfSome result (λ x. offset + P.reads.size class ≤ length «data».now) }
     ensures refused { IfNone result (IsErr (P.reads.record_at little class «data».now offset)) }
 {
-    if !P::is_local() {
+    if !P::SHAPE.2 {
         return read_or_none(little, class, offset, data);
     }
     match class {

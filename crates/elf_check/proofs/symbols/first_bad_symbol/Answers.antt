@@ -8,8 +8,8 @@ use Rattle.elf_check.proofs.symbols.first_bad_symbol.Goals as goal
 pub loop-index-preserved : goal.loop-index-preserved
 loop-index-preserved g c =
     let table = table_view c.args.symbols.now in
-    below_one_more (symbol_at table) (SoundSymbol c.args.sections c.args.strings.now) c.loop-index.index c.symbol_below-symbol.result
-    c.loop-index.invariant c.symbol_below-symbol.ensures c.in-None.ensures
+    below_one_more (symbol_at table) (SoundSymbol c.args.sections c.args.strings.now) c.loop-index.index c.record_below-symbol.result
+    c.loop-index.invariant c.record_below-symbol.ensures c.in-None.ensures
 
 pub returns : goal.returns
 returns g c =

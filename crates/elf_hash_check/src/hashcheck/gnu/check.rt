@@ -19,7 +19,7 @@ use crate::hashcheck::{Checked, HashFault, Reads};
 use elf_parts::endian::EndianParse;
 use elf_parts::file::Class;
 use elf_parts::hash::{GnuHashTable, gnu_hash};
-use elf_parts::laws::find::{gnu_words_can_be_read, words_read_below_count};
+use elf_parts::laws::find::{words_can_be_read, words_read_below_count};
 use elf_parts::parse::ParseError;
 use elf_parts::string_table::StringTable;
 use elf_parts::symbol::SymbolTable;
@@ -178,7 +178,7 @@ pub fn check_gnu_counted<'data, E: EndianParse>(
         read_count reads.new ≡ count_after (read_count reads.old) (gnu_reads table fault))) }
 {
     let table = GnuHashTable::new(endian, class, section)?;
-    gnu_words_can_be_read(section);
+    words_can_be_read(section);
     match first_fault(&table, &symtab, &strtab, reads) {
         Some(fault) => Ok(Checked::Faulty(fault)),
         None => {

@@ -23,7 +23,7 @@ use crate::hashcheck::{Checked, HashFault, Reads};
 use elf_parts::endian::EndianParse;
 use elf_parts::file::Class;
 use elf_parts::hash::{SysVHashTable, sysv_hash};
-use elf_parts::laws::find::sysv_words_can_be_read;
+use elf_parts::laws::find::words_can_be_read;
 use elf_parts::parse::ParseError;
 use elf_parts::string_table::StringTable;
 use elf_parts::symbol::SymbolTable;
@@ -136,7 +136,7 @@ pub fn check_sysv_counted<'data, E: EndianParse>(
         OnFaulty result (λ fault. IsCountAt s fault (read_count reads.old) (read_count reads.new))) }
 {
     let table = SysVHashTable::new(endian, class, section)?;
-    sysv_words_can_be_read(section);
+    words_can_be_read(section);
     match first_fault(&table, &symtab, &strtab, reads) {
         Err(fault) => Ok(Checked::Faulty(fault)),
         Ok(indexed) => Ok(Checked::Sound(CheckedSysvHash {

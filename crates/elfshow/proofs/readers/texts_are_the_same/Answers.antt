@@ -5,4 +5,4 @@ use Rattle.elfshow.proofs.readers.texts_are_the_same.Goals as goal
 pub returns : goal.returns
 returns g c = λ bytes v header s calls read shown.
     text_of_both g.E.EndianParse.little bytes (with_header v header) s calls shown
-    (c.list_answers_as_table.ensures bytes v header s read shown)
+    (c.calls_answer_alike.ensures.tables bytes v header s read shown)

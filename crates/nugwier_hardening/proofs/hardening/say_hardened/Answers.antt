@@ -19,12 +19,12 @@ returns g c =
     let paths : Paths = record { rpath = option_copied c.in_ok-rpath.rpath; runpath = option_copied c.in_ok-runpath.runpath } in
     let symbols = option_map symbols_view c.in_ok-symbols.symbols in
     let features = c.in_ok-features.features in
-    let hardening = c.in_ok-hardening.hardening in
+    let hardening = c.hardening_by-hardening.result in
     let found : paths ≡ paths_of known =
     ap (λ (p : Option (List ℕ)). record paths { rpath = p }) c.in_ok-rpath.ensures.path
     ∙ ap (λ (p : Option (List ℕ)). record { rpath = path_in dt_rpath known; runpath = p }) c.in_ok-runpath.ensures.path in
     let all = all_said c.args.path.now c.args.tables.requirements.now f known paths (option_copied c.entries_in-entries.result) symbols features hardening
-    c.in_ok-known.ensures.known found c.entries_in-entries.ensures c.in_ok-symbols.ensures.symbols c.in_ok-features.ensures.features c.in_ok-hardening.ensures in
+    c.in_ok-known.ensures.known found c.entries_in-entries.ensures c.in_ok-symbols.ensures.symbols c.in_ok-features.ensures.features c.hardening_by-hardening.ensures in
     on_ok_weaker c.say_judged.result
     (λ h. said_six old c.known_entries.new.report c.found_path.new.report c.found_path-2.new.report c.known_symbols.new.report c.known_features.new.report c.say_judged.new.report
     (entries_unread f.entries) (path_missed dt_rpath known) (path_missed dt_runpath known) (fault_said (whole f.symbols.0) f.symbols.1) (properties_unread f.properties)

@@ -10,6 +10,6 @@ loop-place-preserved c =
     let old = rests_view c.loop-place.rests.items in
     let new = rests_view c.step.new.rests.items in
     c.loop-place.invariant
-    ∙ ap (λ l. rests_after c.loop-place.skip l old) (sym c.bytes_from.ensures)
+    ∙ ap (λ l. rests_after c.loop-place.skip l old) (sym c.rest_of.ensures)
     ∙ c.in_ok-skip.ensures
-    ∙ ap (λ l. rests_after c.in_ok-skip.skip l new) (ap (drop 1) c.bytes_from.ensures ∙ drop_next pattern place)
+    ∙ ap (λ l. rests_after c.in_ok-skip.skip l new) (ap (drop 1) c.rest_of.ensures ∙ drop_next pattern place)

@@ -8,5 +8,5 @@ returns g c =
     let part = c.is_part_of_whole.ensures in
     record {
       part = part;
-      answers = c.part_answers_as_whole.ensures (file_of (g.R.Headers.file file) (g.R.ListedFile.bytes file)) (g.R.Reader.ranges file) (λ _. true) part;
+      answers = c.part_answers_as_whole.ensures.part (file_of (g.R.Headers.file file) (g.R.ListedFile.bytes file)) (g.R.Reader.ranges file) (λ _. true) part;
     }

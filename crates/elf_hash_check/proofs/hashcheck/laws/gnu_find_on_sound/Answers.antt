@@ -8,6 +8,6 @@ use Rattle.elf_hash_check.proofs.hashcheck.laws.gnu_find_on_sound.Goals as goal
 
 pub returns : goal.returns
 returns c = λ little class s name cut sound.
-    let answer = gnu_scan s name sound (c.gnu_words_can_be_read.ensures little class s.table cut) in
+    let answer = gnu_scan s name sound (c.words_can_be_read.ensures.gnu little class s.table cut) in
     let P : Result (Option (ℕ × Symbol)) ParseError → Type 0 = λ r. IsOkAnd r (IsLeastNamed s name) in
     subst P (sym answer.is) answer.least

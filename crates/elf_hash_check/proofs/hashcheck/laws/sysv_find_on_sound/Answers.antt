@@ -8,6 +8,6 @@ use Rattle.elf_hash_check.proofs.hashcheck.laws.sysv_find_on_sound.Goals as goal
 
 pub returns : goal.returns
 returns c = λ little class s name cut sound.
-    let answer = sysv_scan s name sound (c.sysv_words_can_be_read.ensures little class s.table cut) in
+    let answer = sysv_scan s name sound (c.words_can_be_read.ensures.sysv little class s.table cut) in
     let P : Result (Option (ℕ × Symbol)) ParseError → Type 0 = λ r. IsOkAnd r (IsFirstNamed s name) in
     subst P (sym answer.is) answer.first

@@ -7,6 +7,6 @@ use Rattle.elf_hash_check.proofs.hashcheck.gnu.check.check_gnu_counted.Goals as 
 pub invariant_of-result : goal.invariant_of-result
 invariant_of-result g c = record {
   sound = c.in-None.ensures.verdict;
-  readable = c.gnu_words_can_be_read.ensures _ c.args.class (gnu_view c.in_ok-table.table) (sym c.in_ok-table.ensures);
+  readable = c.words_can_be_read.ensures.gnu _ c.args.class (gnu_view c.in_ok-table.table) (sym c.in_ok-table.ensures);
   counted = c.word_count-indexed.ensures.count ∙ ap (λ (t : Table). word_count t) c.chains.ensures;
 }

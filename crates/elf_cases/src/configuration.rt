@@ -1,0 +1,17 @@
+//! Lines of the configuration of the dynamic linker.
+use crate::row_words::Words;
+use crate::shown::text;
+use elf_dynamic::conf::{ConfLine, conf_lines};
+use std::io;
+
+/// `conf BYTES`: what the lines of the file name.
+pub(crate) fn show_conf(rt: &HostRuntime, words: &mut Words<'_>) -> io::Result<()> {
+    let data = words.bytes(rt);
+    for line in &conf_lines(rt.alloc(), data.as_slice())? {
+        match line {
+            ConfLine::Folder(path) => print!(rt; "\n    folder {:?}", text(path))?,
+            ConfLine::Include(pattern) => print!(rt; "\n    files {:?}", text(pattern))?,
+        }
+    }
+    Ok(())
+}

@@ -1,5 +1,0 @@
-use Rattle.elf_worked.proofs.BuiltGnuBytes.{gnu_bytes_built}
-use Rattle.elf_worked.proofs.built.built_gnu_bytes_are_sound.Goals as goal
-
-pub returns : goal.returns
-returns c = gnu_bytes_built

@@ -1,5 +1,0 @@
-use Rattle.elf_worked.proofs.BuiltBytes.{sysv_bytes_built}
-use Rattle.elf_worked.proofs.built.built_sysv_bytes_are_sound.Goals as goal
-
-pub returns : goal.returns
-returns c = sysv_bytes_built

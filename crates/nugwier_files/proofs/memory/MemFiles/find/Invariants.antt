@@ -1,7 +1,0 @@
-use Rattle.std.proofs.Common.{◌≡◌, drop}
-use Rattle.elf_libraries.specs.Tree.{content_in}
-use Rattle.nugwier_files.proofs.memory.MemFiles.find.Given as goal
-
--- no file so far has the path
-abbrev pub invariant-loop-file : goal.invariant-loop-file
-invariant-loop-file l = content_in (drop l.file-index l.file-items) l.path ≡ content_in l.self.files.now l.path
