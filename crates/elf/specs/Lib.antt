@@ -6,6 +6,8 @@
 pub mod ElfBytes
 -- section i, the bytes that a header gives a range of, and the first or last header of a type
 pub mod Headers
+-- headers in a table or in a list
+pub mod FileHeaders
 -- what the answers take: headers and bytes
 pub mod ObjectFile
 -- ---- the answers

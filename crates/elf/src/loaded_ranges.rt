@@ -1,21 +1,16 @@
 //! A file that the caller has loaded in part.
-ghost use Rattle.std.specs.Prelude.{◌≡◌, ◌≤◌, ◌-◌, IsTrue, All, List, ℕ, drop, length, map, take};
+ghost use Rattle.std.specs.Prelude.{◌≡◌, ◌∷◌, [], All, List, ℕ, length, map};
 ghost use Rattle.std.specs.Option.{option_map};
-ghost use Rattle.elf_reading.specs.Cache.{IsOf, covers, last_of, part_at};
+ghost use Rattle.elf_reading.specs.Cache.{IsOf, part_at};
 ghost use Rattle.elf.specs.LoadedRanges.{is_away, part_of, ranges_file, ranges_of, whole_file};
 ghost use Rattle.elf.specs.Parts.{ArePartOf};
 
 use crate::elf_bytes::ElfBytes;
-use crate::headers::{Headers, VersionSections};
+use crate::headers::{FileHeaders, Headers};
 use crate::read_error::ReadError;
 use crate::reader::Reader;
-use crate::walk::HeaderIterator;
 use elf_parts::endian::EndianParse;
-use elf_parts::file::Class;
 use elf_parts::parse::ParseError;
-use elf_parts::section::SectionHeader;
-use elf_parts::segment::ProgramHeader;
-use elf_parts::string_table::TerminatedStrings;
 
 /// A range of a file with its bytes. The first of them is at `start` in the file.
 #[repr(C)]
@@ -26,39 +21,32 @@ pub struct LoadedRange<'data> {
 }
 
 impl<'data> LoadedRange<'data> {
-    /// Returns whether the bytes from `start` to `end` lie within this range.
-    pub fn covers(&self, start: u64, end: u64) -> bool
-        requires { start ≤ end }
-        ensures { result ≡ covers start end (part_of self.now) }
+    /// Returns the bytes from `start` to `end`, if they lie within this range.
+    #[inline(always)]
+    pub fn get(&self, start: u64, end: u64) -> Option<&'data [u8]>
+        ensures { option_map (λ part. part.now) result ≡ part_at (part_of self.now ∷ []) start end }
     {
-        self.start <= start && end - self.start <= self.bytes.len() as u64
-    }
-
-    /// Returns the bytes from `start` to `end`.
-    pub fn part(&self, start: u64, end: u64) -> &'data [u8]
-        requires order { start ≤ end }
-        requires within { IsTrue (covers start end (part_of self.now)) }
-        ensures { result.now ≡ take (end - start) (drop (start - self.now.start) self.now.bytes.now) }
-    {
+        if self.start > start || start > end || end - self.start > self.bytes.len() as u64 {
+            return None;
+        }
         let from = (start - self.start) as usize;
         let size = (end - start) as usize;
-        &self.bytes[from..from + size]
+        Some(&self.bytes[from..from + size])
     }
 }
 
-/// Returns the last of the ranges within which the bytes from `start` to `end` lie.
-pub fn last_covering<'a, 'data>(
-    ranges: &'a [LoadedRange<'data>],
+/// Returns the bytes from `start` to `end`, of the last of the ranges within which they lie.
+pub fn loaded_part<'data>(
+    ranges: &[LoadedRange<'data>],
     start: u64,
     end: u64,
-) -> Option<&'a LoadedRange<'data>>
-    requires { start ≤ end }
-    ensures { option_map (λ range. part_of range.now) result ≡ last_of (covers start end) (map part_of ranges.now) }
+) -> Option<&'data [u8]>
+    ensures { option_map (λ part. part.now) result ≡ part_at (map part_of ranges.now) start end }
 {
     let mut found = None;
     for range in ranges {
-        if range.covers(start, end) {
-            found = Some(range);
+        if let Some(part) = range.get(start, end) {
+            found = Some(part);
         }
     }
     found
@@ -99,75 +87,27 @@ impl<'data, E: EndianParse> LoadedRanges<'data, E> {
     }
 }
 
-impl<'data, E: EndianParse> Headers for LoadedRanges<'data, E> {
+impl<'data, E: EndianParse> Headers<E> for LoadedRanges<'data, E> {
     ghost file = { ranges_file E.little };
 
-    fn class(&self) -> Class {
-        self.headers.class()
-    }
-
-    fn e_shstrndx(&self) -> u16 {
-        self.headers.e_shstrndx()
-    }
-
-    fn declares_sections(&self) -> bool {
-        self.headers.declares_sections()
-    }
-
-    fn section_at(&self, index: usize) -> Result<SectionHeader, ParseError> {
-        self.headers.section_at(index)
-    }
-
-    fn first_section_of(&self, sh_type: u32) -> Option<SectionHeader> {
-        self.headers.first_section_of(sh_type)
-    }
-
-    fn first_segment_of(&self, p_type: u32) -> Option<ProgramHeader> {
-        self.headers.first_segment_of(p_type)
-    }
-
-    fn version_sections(&self) -> VersionSections {
-        self.headers.version_sections()
+    #[inline(always)]
+    fn headers(&self) -> FileHeaders<'_, E> {
+        FileHeaders {
+            size: self.size,
+            ..self.headers.headers()
+        }
     }
 }
 
 impl<'data, E: EndianParse> Reader<E> for LoadedRanges<'data, E> {
     ghost ranges = { ranges_of };
 
-    fn endianness(&self) -> E {
-        self.headers.endianness()
-    }
-
-    fn size(&self) -> u64 {
-        self.size
-    }
-
-    fn first_named(&self, names: &TerminatedStrings<'_>, name: &[u8]) -> Option<SectionHeader> {
-        self.headers.first_named(names, name)
-    }
-
-    fn section_header(&self, index: u64) -> Option<SectionHeader> {
-        self.headers.section_header(index)
-    }
-
-    fn program_header(&self, index: u64) -> Option<ProgramHeader> {
-        self.headers.program_header(index)
-    }
-
-    fn each_section(&self) -> HeaderIterator<'_, E, SectionHeader> {
-        self.headers.each_section()
-    }
-
-    fn each_segment(&self) -> HeaderIterator<'_, E, ProgramHeader> {
-        self.headers.each_segment()
-    }
-
     fn range(&self, start: u64, size: u64) -> Result<&[u8], ReadError> {
         let Some(end) = start.checked_add(size) else {
             return Err(ReadError::Parse(ParseError::IntegerOverflow));
         };
-        match last_covering(self.ranges, start, end) {
-            Some(range) => Ok(range.part(start, end)),
+        match loaded_part(self.ranges, start, end) {
+            Some(part) => Ok(part),
             None if self.size < end => Err(ReadError::Parse(ParseError::SliceReadError((
                 start as usize,
                 end as usize,

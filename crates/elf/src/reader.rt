@@ -47,46 +47,73 @@ use elf_reading::leading::leading_record;
 
 /// A file whose bytes are given range by range. What is read of it is defined over these ranges alone, so the methods
 /// are written once for a file in memory and for the loaded parts of a stream.
-pub trait Reader<E: EndianParse>: Headers {
+pub trait Reader<E: EndianParse>: Headers<E> {
     // The ranges that this reader has.
     ghost ranges: { Self → Ranges };
-
-    /// Returns the current byte order.
-    fn endianness(&self) -> E
-        ensures { E.little result ≡ (Self.Headers.file self.now).little };
-
-    /// Returns the size of the file in bytes.
-    fn size(&self) -> u64
-        ensures { result ≡ (Self.Headers.file self.now).size };
-
-    /// Returns the first section header whose name, a string of `names`, has exactly these bytes. A section whose name
-    /// cannot be read is skipped.
-    fn first_named(&self, names: &TerminatedStrings<'_>, name: &[u8]) -> Option<SectionHeader>
-        ensures { result ≡ first_named (Self.Headers.file self.now).sections name.now (Some names.now) };
-
-    /// Returns the section header of an index, if there is one.
-    fn section_header(&self, index: u64) -> Option<SectionHeader>
-        ensures { result ≡ slice_get (Self.Headers.file self.now).sections index };
-
-    /// Returns the program header of an index, if there is one.
-    fn program_header(&self, index: u64) -> Option<ProgramHeader>
-        ensures { result ≡ slice_get (Self.Headers.file self.now).segments index };
-
-    /// Returns the section headers in order.
-    fn each_section(&self) -> HeaderIterator<'_, E, SectionHeader>
-        ensures value { headers_left section_header_reads result ≡ (Self.Headers.file self.now).sections }
-        ensures bound { length (headers_left section_header_reads result) < 2 ^ 64 };
-
-    /// Returns the program headers in order.
-    fn each_segment(&self) -> HeaderIterator<'_, E, ProgramHeader>
-        ensures value { headers_left program_header_reads result ≡ (Self.Headers.file self.now).segments }
-        ensures bound { length (headers_left program_header_reads result) < 2 ^ 64 };
 
     /// Returns the bytes of a range.
     fn range(&self, start: u64, size: u64) -> Result<&[u8], ReadError>
         ensures value { ok_map (λ part. part.now) result ≡ ranges self.now start size }
         ensures size { IfOk result (λ part. length part.now ≤ size) }
         ensures plain { IfErr result IsPlain };
+
+    /// Returns the current byte order.
+    #[inline(always)]
+    fn endianness(&self) -> E
+        ensures { E.little result ≡ (Self.Headers.file self.now).little }
+    {
+        self.headers().endianness
+    }
+
+    /// Returns the size of the file in bytes.
+    #[inline(always)]
+    fn size(&self) -> u64
+        ensures { result ≡ (Self.Headers.file self.now).size }
+    {
+        self.headers().size
+    }
+
+    /// Returns the first section header whose name, a string of `names`, has exactly these bytes. A section whose name
+    /// cannot be read is skipped.
+    fn first_named(&self, names: &TerminatedStrings<'_>, name: &[u8]) -> Option<SectionHeader>
+        ensures { result ≡ first_named (Self.Headers.file self.now).sections name.now (Some names.now) }
+    {
+        self.headers().first_named(names, name)
+    }
+
+    /// Returns the section header of an index, if there is one.
+    fn section_header(&self, index: u64) -> Option<SectionHeader>
+        ensures { result ≡ slice_get (Self.Headers.file self.now).sections index }
+    {
+        self.headers().sections.get(index)
+    }
+
+    /// Returns the program header of an index, if there is one.
+    fn program_header(&self, index: u64) -> Option<ProgramHeader>
+        ensures { result ≡ slice_get (Self.Headers.file self.now).segments index }
+    {
+        self.headers().segments.get(index)
+    }
+
+    /// Returns the section headers in order.
+    #[inline(always)]
+    fn each_section(&self) -> HeaderIterator<'_, E, SectionHeader>
+        ensures value { headers_left section_header_reads result ≡ (Self.Headers.file self.now).sections }
+        ensures bound { length (headers_left section_header_reads result) < 2 ^ 64 }
+    {
+        let headers = self.headers();
+        headers.sections.iter(headers.endianness)
+    }
+
+    /// Returns the program headers in order.
+    #[inline(always)]
+    fn each_segment(&self) -> HeaderIterator<'_, E, ProgramHeader>
+        ensures value { headers_left program_header_reads result ≡ (Self.Headers.file self.now).segments }
+        ensures bound { length (headers_left program_header_reads result) < 2 ^ 64 }
+    {
+        let headers = self.headers();
+        headers.segments.iter(headers.endianness)
+    }
 }
 
 /// Returns the bytes in the range of a section.

@@ -7,7 +7,7 @@ pub mod Files
 pub mod NoteFilling
 pub mod HashTables
 pub mod Writing
-pub mod TypeNames
+pub mod Templates
 pub mod Checked
 pub mod Chosen
 pub mod Held

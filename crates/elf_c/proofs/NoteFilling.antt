@@ -1,6 +1,5 @@
 -- Places that are filled with notes.
-use Rattle.std.proofs.Common.{inl, inr, ◌≡◌, ℕ, suc, ◌+◌, ◌<◌, List, Option, Result, Ok, Some, length, slice_get, slice_set, sym, subst, ◌∙◌, ap, arith}
-use Rattle.std.proofs.lemmas.Bool.{cases_eq}
+use Rattle.std.proofs.Common.{◌≡◌, ℕ, suc, ◌+◌, ◌<◌, List, Option, Result, Ok, Some, length, slice_set, sym, subst, ◌∙◌, ap, arith}
 use Rattle.elf_records.specs.Number.{ok_map}
 use Rattle.elf_records.specs.Record.{◌>>=◌}
 use Rattle.elf_parts.specs.Note.{NoteContent}
@@ -8,27 +7,17 @@ use Rattle.elf_records.specs.declared.parse.ParseError.{ParseError}
 use Rattle.elf_c.specs.Notes.{AreNotes, IsNote, IsShown, next_note, note_after, note_of_c}
 use Rattle.elf_c.specs.declared.notes.NugwierNote.{NugwierNote}
 use Rattle.elf_c.specs.declared.notes.NugwierNotes.{NugwierNotes}
-use Rattle.elf_c.proofs.Filling.{slice_get-set_other, slice_get-set_same}
+use Rattle.elf_c.proofs.Filling.{more_places}
 
 -- one more note
 pub notes_more : (notes : NugwierNotes) (o n at : ℕ) (xs : List NugwierNote) (note : NugwierNote)
     (found : NoteContent × ℕ) → n < length xs → AreNotes notes o n xs → note_after notes n o ≡ Ok at →
     note_of_c notes at ≡ Ok found → IsNote note found.0 → AreNotes notes o (n + 1) (slice_set xs n note)
-notes_more notes o n at xs note found within filled reached read shown k before =
-    elim (cases_eq k n) [
-      | inl same ↦
-          let P : ℕ → Type 0 =
-          λ j. IsShown (note_after notes j o >>= note_of_c notes) (slice_get (slice_set xs n note) j) in
-          let Q : Option NugwierNote → Type 0 = λ p. IsShown (note_after notes n o >>= note_of_c notes) p in
-          let R : Result ℕ ParseError → Type 0 = λ r. IsShown (r >>= note_of_c notes) (Some note) in
-          let S : Result (NoteContent × ℕ) ParseError → Type 0 = λ r. IsShown r (Some note) in
-          subst P (sym same) (subst Q (sym (slice_get-set_same xs n note within))
-          (subst R (sym reached) (subst S (sym read) shown)))
-      | inr other ↦
-          let Q : Option NugwierNote → Type 0 = λ p. IsShown (note_after notes k o >>= note_of_c notes) p in
-          let less : k < n = omega (arith, before, other) in
-          subst Q (sym (slice_get-set_other xs n k note less within)) (filled k less)
-    ]
+notes_more notes o n at xs note found within filled reached read shown =
+    let P : ℕ → Option NugwierNote → Type 0 = λ k place. IsShown (note_after notes k o >>= note_of_c notes) place in
+    let R : Result ℕ ParseError → Type 0 = λ r. IsShown (r >>= note_of_c notes) (Some note) in
+    let S : Result (NoteContent × ℕ) ParseError → Type 0 = λ r. IsShown r (Some note) in
+    more_places P n xs note within filled (subst R (sym reached) (subst S (sym read) shown))
 
 -- the offset after one more note
 pub after_more : (notes : NugwierNotes) (o n at : ℕ) (found : NoteContent × ℕ) → note_after notes n o ≡ Ok at →

@@ -5,17 +5,12 @@ use Rattle.elf_records.specs.Table.{Table}
 use Rattle.elf_c.specs.Tables.{table_of_c}
 use Rattle.elf_c.specs.declared.symbols.NugwierDynamicTable.{NugwierDynamicTable}
 use Rattle.elf_c.specs.declared.symbols.NugwierSymbolTable.{NugwierSymbolTable}
-use Rattle.elf_c.specs.declared.table.NugwierTable.{NugwierTable}
-use denote.Ref.{Bor}
 
 -- the type of a section of symbols
 abbrev pub symbols_type : Bool → ℕ
 symbols_type dynamic = if dynamic then sht_dynsym else sht_symtab
 
 -- a table with its strings
-abbrev pub pair_view : NugwierTable × Bor (List ℕ) → Table × List ℕ
-pair_view found = (table_of_c found.0, found.1.now)
-
 abbrev pub symbols_pair : NugwierSymbolTable → Table × List ℕ
 symbols_pair s = (table_of_c s.symbols, s.strings.now)
 

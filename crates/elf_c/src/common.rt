@@ -1,21 +1,18 @@
 //! What is looked up most often, found in one pass over the sections.
 ghost use Rattle.std.specs.Prelude.{◌≡◌, IfOk, [], true};
-ghost use Rattle.elf.specs.Answers.{section_dynamic, symbols_of};
-ghost use Rattle.elf.specs.Common.{common_of_sections, common_part, find_common_data, gnu_hash_table_of};
-ghost use Rattle.elf.specs.Common.{last_of_each, sysv_hash_table_of};
+ghost use Rattle.elf.specs.Answers.{symbols_of};
+ghost use Rattle.elf.specs.Common.{common_of_sections, common_part, find_common_data, last_of_each};
 ghost use Rattle.elf.specs.inner.Passes.{with_part};
 ghost use Rattle.elf_records.specs.Number.{ok_map};
 ghost use Rattle.elf_c.specs.Common.{MissingAreEmpty, common_of_c};
-ghost use Rattle.elf_c.specs.HashTables.{gnu_of_c, sysv_of_c};
 ghost use Rattle.elf_c.specs.Loaded.{loaded_of_c};
 ghost use Rattle.elf_c.specs.Status.{IsWritten, read_status};
 ghost use Rattle.elf_c.specs.Symbols.{symbols_pair};
-ghost use Rattle.elf_c.specs.Tables.{table_of_c};
 
 use crate::file::NugwierFile;
 use crate::hash_tables::{NugwierGnu, NugwierSysv, gnu_opened, sysv_opened};
 use crate::status::{NugwierStatus, done, unread};
-use crate::symbols::{NugwierDynamicTable, NugwierSymbolTable};
+use crate::symbols::{NugwierDynamicTable, NugwierSymbolTable, dynamics_shown};
 use crate::table::{records_in, table_shown};
 use elf::headers::Headers;
 use elf::{ReadError, abi, reader};
@@ -60,46 +57,8 @@ fn symbols_of<'data>(
     })
 }
 
-// The dynamic entries of a section.
-fn section_dynamic<'data>(
-    file: &'data NugwierFile<'data>,
-    shdr: &SectionHeader,
-) -> Result<NugwierDynamicTable<'data>, ReadError>
-    ensures value { ok_map (λ d. table_of_c d.entries) result ≡ section_dynamic (loaded_of_c file.now) shdr.now }
-    ensures found { IfOk result (λ d. d.found ≡ true) }
-{
-    let entries = reader::section_dynamic::<AnyEndian, _>(file, shdr)?;
-    Ok(NugwierDynamicTable {
-        found: true,
-        entries: table_shown(&entries),
-    })
-}
-
-// The SysV hash section that a section is.
-#[tactic(auto, using(crate::proofs::Files::is_little_in))]
-fn sysv_of<'data>(
-    file: &'data NugwierFile<'data>,
-    shdr: &SectionHeader,
-) -> Result<NugwierSysv<'data>, ReadError>
-    ensures { ok_map sysv_of_c result ≡ sysv_hash_table_of (loaded_of_c file.now) shdr.now }
-{
-    let bytes = reader::section_part::<AnyEndian, _>(file, shdr)?;
-    Ok(sysv_opened(file.header.little, file.header.is_64, bytes)?)
-}
-
-// The GNU hash section that a section is.
-#[tactic(auto, using(crate::proofs::Files::is_little_in))]
-fn gnu_of<'data>(
-    file: &'data NugwierFile<'data>,
-    shdr: &SectionHeader,
-) -> Result<NugwierGnu<'data>, ReadError>
-    ensures { ok_map gnu_of_c result ≡ gnu_hash_table_of (loaded_of_c file.now) shdr.now }
-{
-    let bytes = reader::section_part::<AnyEndian, _>(file, shdr)?;
-    Ok(gnu_opened(file.header.little, file.header.is_64, bytes)?)
-}
-
 // Writes what a section holds over what was found before.
+#[tactic(auto, using(crate::proofs::Files::is_little_in))]
 fn add_section<'data>(
     file: &'data NugwierFile<'data>,
     shdr: &SectionHeader,
@@ -118,14 +77,17 @@ fn add_section<'data>(
             found.dynamic_symbols = symbols_of(file, shdr)?;
         }
         abi::SHT_DYNAMIC => {
-            found.dynamics = section_dynamic(file, shdr)?;
+            let entries = reader::section_dynamic::<AnyEndian, _>(file, shdr)?;
+            found.dynamics = dynamics_shown(&entries);
         }
         abi::SHT_HASH => {
-            found.sysv = sysv_of(file, shdr)?;
+            let bytes = reader::section_part::<AnyEndian, _>(file, shdr)?;
+            found.sysv = sysv_opened(file.header.little, file.header.is_64, bytes)?;
             found.has_sysv = true;
         }
         abi::SHT_GNU_HASH => {
-            found.gnu = gnu_of(file, shdr)?;
+            let bytes = reader::section_part::<AnyEndian, _>(file, shdr)?;
+            found.gnu = gnu_opened(file.header.little, file.header.is_64, bytes)?;
             found.has_gnu = true;
         }
         _ => {}
@@ -161,10 +123,7 @@ fn common_in<'data>(file: &'data NugwierFile<'data>) -> Result<NugwierCommon<'da
         && let Some(phdr) = file.first_segment_of(abi::PT_DYNAMIC)
     {
         let entries = reader::segment_dynamic::<AnyEndian, _>(file, &phdr)?;
-        found.dynamics = NugwierDynamicTable {
-            found: true,
-            entries: table_shown(&entries),
-        };
+        found.dynamics = dynamics_shown(&entries);
     }
     Ok(found)
 }

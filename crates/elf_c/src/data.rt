@@ -1,8 +1,7 @@
 //! The bytes of sections and segments, and what lies in them: strings, relocations, notes.
 ghost use Rattle.std.specs.Prelude.{◌≡◌};
-ghost use Rattle.elf_abi.specs.Values.{sht_note, sht_rel, sht_rela};
+ghost use Rattle.elf_abi.specs.Values.{sht_rel, sht_rela};
 ghost use Rattle.elf_records.specs.Number.{ok_map};
-ghost use Rattle.elf_reading.specs.Leading.{data_view};
 ghost use Rattle.elf.specs.Answers.{section_data_as_strtab, segment_data};
 ghost use Rattle.elf.specs.Data.{section_data};
 ghost use Rattle.elf.specs.ObjectFile.{table_of};
@@ -16,10 +15,10 @@ ghost use Rattle.elf_c.specs.Tables.{bytes_view, table_of_c};
 use crate::file::NugwierFile;
 use crate::notes::NugwierNotes;
 use crate::records::{NugwierSection, NugwierSegment, section_in, segment_in};
-use crate::status::{NugwierStatus, done, unread};
+use crate::status::{NugwierStatus, done, refused, unread};
 use crate::strings::NugwierBytes;
 use crate::table::NugwierTable;
-use elf::{ParseError, ReadError, abi, reader};
+use elf::{ParseError, abi, reader};
 use elf_parts::compression::CompressionHeader;
 use elf_parts::endian::AnyEndian;
 
@@ -219,23 +218,6 @@ pub extern "C" fn nugwier_section_notes<'data>(
     }
 }
 
-// The bytes of a segment that must be of notes.
-fn note_segment<'data>(
-    file: &'data NugwierFile<'data>,
-    segment: &NugwierSegment,
-) -> Result<NugwierNotes<'data>, ReadError>
-    ensures { ok_map notes_view result ≡ segment_notes (loaded_of_c file.now) (segment_in segment.now) }
-{
-    if segment.kind != abi::PT_NOTE {
-        return Err(ReadError::Parse(ParseError::UnexpectedSegmentType((
-            segment.kind,
-            abi::PT_NOTE,
-        ))));
-    }
-    let bytes = reader::segment_data::<AnyEndian, _>(file, &segment_in(segment))?;
-    Ok(notes_in(file, segment.align, bytes))
-}
-
 /// Finds the notes of a segment of type `PT_NOTE`. An error leaves `notes` as it is; the errors are those of
 /// `ElfBytes::segment_data_as_notes`.
 #[unsafe(no_mangle)]
@@ -248,9 +230,12 @@ pub extern "C" fn nugwier_segment_notes<'data>(
     ensures notes { IsWritten notes_view notes.new notes.old
         (segment_notes (loaded_of_c file.now) (segment_in segment.now)) }
 {
-    match note_segment(file, segment) {
-        Ok(found) => {
-            *notes = found;
+    if segment.kind != abi::PT_NOTE {
+        return refused(&ParseError::UnexpectedSegmentType((segment.kind, abi::PT_NOTE)));
+    }
+    match reader::segment_data::<AnyEndian, _>(file, &segment_in(segment)) {
+        Ok(bytes) => {
+            *notes = notes_in(file, segment.align, bytes);
             done()
         }
         Err(error) => unread(&error),

@@ -119,19 +119,6 @@ fn name_of<'data>(strings: &'data [u8], offset: u64) -> Result<&'data [u8], Name
     }
 }
 
-// The string that a tag gives.
-fn name_with<'data>(
-    names: &NugwierDynamicNames<'data>,
-    tag: i64,
-) -> Result<Option<&'data [u8]>, NamesError>
-    ensures { ok_map (option_map (λ name. name.now)) result ≡ name_with tag names.now }
-{
-    match value(&records_in(&names.entries), tag) {
-        Some(offset) => name_of(names.strings, offset).map(Some),
-        None => Ok(None),
-    }
-}
-
 // Writes the string that a tag gives, or that there is none.
 fn write_name<'data>(
     names: &NugwierDynamicNames<'data>,
@@ -141,13 +128,13 @@ fn write_name<'data>(
     ensures status { result ≡ names_status (name_with tag names.now) }
     ensures name { IsWrittenIf found_bytes no_bytes_in name.new name.old (name_with tag names.now) }
 {
-    match name_with(names, tag) {
-        Ok(Some(bytes)) => {
+    let Some(offset) = value(&records_in(&names.entries), tag) else {
+        name.found = false;
+        return done();
+    };
+    match name_of(names.strings, offset) {
+        Ok(bytes) => {
             *name = NugwierFoundBytes { found: true, bytes };
-            done()
-        }
-        Ok(None) => {
-            name.found = false;
             done()
         }
         Err(error) => nameless(&error),

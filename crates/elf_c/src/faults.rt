@@ -1,9 +1,8 @@
 //! The faults of a file as C sees them.
 ghost use Rattle.std.specs.Prelude.{◌≡◌};
-ghost use Rattle.elf_c.specs.Faults.{chain_fault, dynamic_fault, fault, fault_shown, hash_fault};
-ghost use Rattle.elf_c.specs.Faults.{hash_section_fault, no_fault, of_section, of_segment};
-ghost use Rattle.elf_c.specs.Faults.{of_versions, relocations_fault, section_fault, segment_fault, segments_fault};
-ghost use Rattle.elf_c.specs.Faults.{symbol_fault, symbols_fault, versions_fault};
+ghost use Rattle.elf_c.specs.Faults.{chain_fault, dynamic_fault, fault, fault_shown, hash_fault, no_fault};
+ghost use Rattle.elf_c.specs.Faults.{relocations_fault, section_fault, segment_fault, segments_fault, symbols_fault};
+ghost use Rattle.elf_c.specs.Faults.{versions_fault};
 
 pub mod kinds;
 
@@ -39,17 +38,14 @@ pub struct NugwierFault {
     pub second: u64,
 }
 
-// No fault.
-pub(crate) fn no_fault() -> NugwierFault
-    ensures { result ≡ no_fault }
-{
-    fault(0, PART_FILE, 0, 0, 0)
-}
+// What is told of a fault: its kind, and the two numbers that belong to it.
+type Told = (u32, u64, u64);
 
-// A fault by its numbers.
-fn fault(kind: u32, part: u32, index: u64, first: u64, second: u64) -> NugwierFault
-    ensures { result ≡ fault kind part index first second }
+// A fault of a part of the file.
+fn fault(part: u32, index: u64, told: Told) -> NugwierFault
+    ensures { result ≡ fault part index told }
 {
+    let (kind, first, second) = told;
     NugwierFault {
         kind,
         part,
@@ -59,210 +55,146 @@ fn fault(kind: u32, part: u32, index: u64, first: u64, second: u64) -> NugwierFa
     }
 }
 
-// A fault of a section.
-fn of_section(kind: u32, section: usize, first: u64, second: u64) -> NugwierFault
-    ensures { result ≡ of_section kind section first second }
+// No fault.
+pub(crate) fn no_fault() -> NugwierFault
+    ensures { result ≡ no_fault }
 {
-    fault(kind, PART_SECTION, section as u64, first, second)
-}
-
-// A fault of the versions.
-fn of_versions(kind: u32, first: u64) -> NugwierFault
-    ensures { result ≡ of_versions kind first }
-{
-    fault(kind, PART_VERSIONS, 0, first, 0)
-}
-
-// A fault of a segment.
-fn of_segment(kind: u32, segment: usize, first: u64, second: u64) -> NugwierFault
-    ensures { result ≡ of_segment kind segment first second }
-{
-    fault(kind, PART_SEGMENT, segment as u64, first, second)
-}
-
-// The fault of a symbol of a section.
-fn symbol_fault(section: usize, symbol: usize, found: &SymbolFault) -> NugwierFault
-    ensures { result ≡ symbol_fault section symbol found.now }
-{
-    let index = symbol as u64;
-    match *found {
-        SymbolFault::NoName { name } => {
-            of_section(kinds::SYMBOL_NO_NAME, section, index, name as u64)
-        }
-        SymbolFault::NoSection { section: number } => {
-            of_section(kinds::SYMBOL_NO_SECTION, section, index, number as u64)
-        }
-    }
+    fault(PART_FILE, 0, (0, 0, 0))
 }
 
 // The fault of the symbols of a section.
-fn symbols_fault(section: usize, found: &SymbolsFault) -> NugwierFault
-    ensures { result ≡ symbols_fault section found.now }
+fn symbols_fault(found: &SymbolsFault) -> Told
+    ensures { result ≡ symbols_fault found.now }
 {
-    match found {
-        SymbolsFault::BadLink => of_section(kinds::SYMBOLS_BAD_LINK, section, 0, 0),
-        SymbolsFault::LinkedToNoStrings => {
-            of_section(kinds::SYMBOLS_LINKED_TO_NO_STRINGS, section, 0, 0)
-        }
-        SymbolsFault::PartOfSymbol => of_section(kinds::PART_OF_SYMBOL, section, 0, 0),
-        SymbolsFault::NoSymbols => of_section(kinds::NO_SYMBOLS, section, 0, 0),
-        SymbolsFault::At { index, fault } => symbol_fault(section, *index, fault),
+    match *found {
+        SymbolsFault::BadLink => (kinds::SYMBOLS_BAD_LINK, 0, 0),
+        SymbolsFault::LinkedToNoStrings => (kinds::SYMBOLS_LINKED_TO_NO_STRINGS, 0, 0),
+        SymbolsFault::PartOfSymbol => (kinds::PART_OF_SYMBOL, 0, 0),
+        SymbolsFault::NoSymbols => (kinds::NO_SYMBOLS, 0, 0),
+        SymbolsFault::At {
+            index,
+            fault: SymbolFault::NoName { name },
+        } => (kinds::SYMBOL_NO_NAME, index as u64, name as u64),
+        SymbolsFault::At {
+            index,
+            fault: SymbolFault::NoSection { section },
+        } => (kinds::SYMBOL_NO_SECTION, index as u64, section as u64),
     }
 }
 
 // The fault of the relocations of a section.
-fn relocations_fault(section: usize, found: &RelocationsFault) -> NugwierFault
-    ensures { result ≡ relocations_fault section found.now }
+fn relocations_fault(found: &RelocationsFault) -> Told
+    ensures { result ≡ relocations_fault found.now }
 {
     match *found {
-        RelocationsFault::EntrySize => of_section(kinds::RELOCATIONS_ENTRY_SIZE, section, 0, 0),
-        RelocationsFault::NoLink => of_section(kinds::RELOCATIONS_NO_LINK, section, 0, 0),
-        RelocationsFault::PartOfRelocation => of_section(kinds::PART_OF_RELOCATION, section, 0, 0),
+        RelocationsFault::EntrySize => (kinds::RELOCATIONS_ENTRY_SIZE, 0, 0),
+        RelocationsFault::NoLink => (kinds::RELOCATIONS_NO_LINK, 0, 0),
+        RelocationsFault::PartOfRelocation => (kinds::PART_OF_RELOCATION, 0, 0),
         RelocationsFault::NoSymbol { index, symbol } => {
-            of_section(
-                kinds::RELOCATION_NO_SYMBOL,
-                section,
-                index as u64,
-                symbol as u64,
-            )
+            (kinds::RELOCATION_NO_SYMBOL, index as u64, symbol as u64)
         }
     }
 }
 
 // The fault of the hash table of a section.
-fn hash_fault(section: usize, found: &HashFault) -> NugwierFault
-    ensures { result ≡ hash_fault section found.now }
+fn hash_fault(found: &HashFault) -> Told
+    ensures { result ≡ hash_fault found.now }
 {
     match *found {
-        HashFault::Endless { bucket } => {
-            of_section(kinds::HASH_ENDLESS, section, bucket as u64, 0)
-        }
+        HashFault::Endless { bucket } => (kinds::HASH_ENDLESS, bucket as u64, 0),
         HashFault::PastChains { bucket, index } => {
-            of_section(
-                kinds::HASH_PAST_CHAINS,
-                section,
-                bucket as u64,
-                index as u64,
-            )
+            (kinds::HASH_PAST_CHAINS, bucket as u64, index as u64)
         }
-        HashFault::Unreadable { index } => {
-            of_section(kinds::HASH_UNREADABLE, section, index as u64, 0)
-        }
+        HashFault::Unreadable { index } => (kinds::HASH_UNREADABLE, index as u64, 0),
         HashFault::WrongBucket { bucket, index } => {
-            of_section(
-                kinds::HASH_WRONG_BUCKET,
-                section,
-                bucket as u64,
-                index as u64,
-            )
+            (kinds::HASH_WRONG_BUCKET, bucket as u64, index as u64)
         }
-        HashFault::ShiftTooLarge => of_section(kinds::HASH_SHIFT_TOO_LARGE, section, 0, 0),
-        HashFault::WrongHash { index } => {
-            of_section(kinds::HASH_WRONG_HASH, section, index as u64, 0)
-        }
-        HashFault::NoBloomBit { index } => {
-            of_section(kinds::HASH_NO_BLOOM_BIT, section, index as u64, 0)
-        }
-        HashFault::NotInRun { index } => {
-            of_section(kinds::HASH_NOT_IN_RUN, section, index as u64, 0)
-        }
-    }
-}
-
-// The fault of a hash section.
-fn hash_section_fault(section: usize, found: &HashSectionFault) -> NugwierFault
-    ensures { result ≡ hash_section_fault section found.now }
-{
-    match found {
-        HashSectionFault::NotLinked => of_section(kinds::HASH_NOT_LINKED, section, 0, 0),
-        HashSectionFault::NoTable => of_section(kinds::HASH_NO_TABLE, section, 0, 0),
-        HashSectionFault::Unsound(fault) => hash_fault(section, fault),
+        HashFault::ShiftTooLarge => (kinds::HASH_SHIFT_TOO_LARGE, 0, 0),
+        HashFault::WrongHash { index } => (kinds::HASH_WRONG_HASH, index as u64, 0),
+        HashFault::NoBloomBit { index } => (kinds::HASH_NO_BLOOM_BIT, index as u64, 0),
+        HashFault::NotInRun { index } => (kinds::HASH_NOT_IN_RUN, index as u64, 0),
     }
 }
 
 // The fault of the dynamic entries of a section.
-fn dynamic_fault(section: usize, found: &DynamicFault) -> NugwierFault
-    ensures { result ≡ dynamic_fault section found.now }
+fn dynamic_fault(found: &DynamicFault) -> Told
+    ensures { result ≡ dynamic_fault found.now }
 {
     match *found {
-        DynamicFault::EntrySize => of_section(kinds::DYNAMIC_ENTRY_SIZE, section, 0, 0),
-        DynamicFault::NotLinked => of_section(kinds::DYNAMIC_NOT_LINKED, section, 0, 0),
-        DynamicFault::NoStrings => of_section(kinds::DYNAMIC_NO_STRINGS, section, 0, 0),
-        DynamicFault::PartOfEntry => of_section(kinds::PART_OF_DYNAMIC_ENTRY, section, 0, 0),
-        DynamicFault::NoNull => of_section(kinds::DYNAMIC_NO_NULL, section, 0, 0),
-        DynamicFault::NoString { index } => {
-            of_section(kinds::DYNAMIC_NO_STRING, section, index as u64, 0)
-        }
+        DynamicFault::EntrySize => (kinds::DYNAMIC_ENTRY_SIZE, 0, 0),
+        DynamicFault::NotLinked => (kinds::DYNAMIC_NOT_LINKED, 0, 0),
+        DynamicFault::NoStrings => (kinds::DYNAMIC_NO_STRINGS, 0, 0),
+        DynamicFault::PartOfEntry => (kinds::PART_OF_DYNAMIC_ENTRY, 0, 0),
+        DynamicFault::NoNull => (kinds::DYNAMIC_NO_NULL, 0, 0),
+        DynamicFault::NoString { index } => (kinds::DYNAMIC_NO_STRING, index as u64, 0),
     }
 }
 
 // The fault of a section.
-fn section_fault(section: usize, found: &SectionFault) -> NugwierFault
-    ensures { result ≡ section_fault section found.now }
+fn section_fault(found: &SectionFault) -> Told
+    ensures { result ≡ section_fault found.now }
 {
     match found {
-        SectionFault::NoName => of_section(kinds::SECTION_NO_NAME, section, 0, 0),
-        SectionFault::NoBytes => of_section(kinds::SECTION_NO_BYTES, section, 0, 0),
-        SectionFault::Compressed => of_section(kinds::SECTION_COMPRESSED, section, 0, 0),
-        SectionFault::NoLastNul => of_section(kinds::SECTION_NO_LAST_NUL, section, 0, 0),
-        SectionFault::Symbols(fault) => symbols_fault(section, fault),
-        SectionFault::Relocations(fault) => relocations_fault(section, fault),
-        SectionFault::Hash(fault) => hash_section_fault(section, fault),
-        SectionFault::Dynamic(fault) => dynamic_fault(section, fault),
-        SectionFault::NoNote { offset } => {
-            of_section(kinds::SECTION_NO_NOTE, section, *offset as u64, 0)
-        }
+        SectionFault::NoName => (kinds::SECTION_NO_NAME, 0, 0),
+        SectionFault::NoBytes => (kinds::SECTION_NO_BYTES, 0, 0),
+        SectionFault::Compressed => (kinds::SECTION_COMPRESSED, 0, 0),
+        SectionFault::NoLastNul => (kinds::SECTION_NO_LAST_NUL, 0, 0),
+        SectionFault::Symbols(fault) => symbols_fault(fault),
+        SectionFault::Relocations(fault) => relocations_fault(fault),
+        SectionFault::Hash(HashSectionFault::NotLinked) => (kinds::HASH_NOT_LINKED, 0, 0),
+        SectionFault::Hash(HashSectionFault::NoTable) => (kinds::HASH_NO_TABLE, 0, 0),
+        SectionFault::Hash(HashSectionFault::Unsound(fault)) => hash_fault(fault),
+        SectionFault::Dynamic(fault) => dynamic_fault(fault),
+        SectionFault::NoNote { offset } => (kinds::SECTION_NO_NOTE, *offset as u64, 0),
     }
 }
 
 // The fault of the needs or of the definitions, by the kinds that it has there.
-fn chain_fault(short: u32, not_last: u32, at: u32, found: &ChainFault) -> NugwierFault
+fn chain_fault(short: u32, not_last: u32, at: u32, found: &ChainFault) -> Told
     ensures { result ≡ chain_fault short not_last at found.now }
 {
     match *found {
-        ChainFault::Short { found } => of_versions(short, found),
-        ChainFault::NotLast => of_versions(not_last, 0),
-        ChainFault::At { index } => of_versions(at, index),
+        ChainFault::Short { found } => (short, found, 0),
+        ChainFault::NotLast => (not_last, 0, 0),
+        ChainFault::At { index } => (at, index, 0),
     }
 }
 
 // The fault of the versions.
-fn versions_fault(found: &VersionsFault) -> NugwierFault
+fn versions_fault(found: &VersionsFault) -> Told
     ensures { result ≡ versions_fault found.now }
 {
     match found {
-        VersionsFault::NeedsUnreadable => of_versions(kinds::NEEDS_UNREADABLE, 0),
-        VersionsFault::NeedsTooLong => of_versions(kinds::NEEDS_TOO_LONG, 0),
+        VersionsFault::NeedsUnreadable => (kinds::NEEDS_UNREADABLE, 0, 0),
+        VersionsFault::NeedsTooLong => (kinds::NEEDS_TOO_LONG, 0, 0),
         VersionsFault::FaultyNeeds(fault) => chain_fault(
             kinds::NEEDS_SHORT,
             kinds::NEEDS_NOT_LAST,
             kinds::NEED_UNREADABLE,
             fault,
         ),
-        VersionsFault::DefinitionsUnreadable => of_versions(kinds::DEFINITIONS_UNREADABLE, 0),
-        VersionsFault::DefinitionsTooLong => of_versions(kinds::DEFINITIONS_TOO_LONG, 0),
+        VersionsFault::DefinitionsUnreadable => (kinds::DEFINITIONS_UNREADABLE, 0, 0),
+        VersionsFault::DefinitionsTooLong => (kinds::DEFINITIONS_TOO_LONG, 0, 0),
         VersionsFault::FaultyDefinitions(fault) => chain_fault(
             kinds::DEFINITIONS_SHORT,
             kinds::DEFINITIONS_NOT_LAST,
             kinds::DEFINITION_UNREADABLE,
             fault,
         ),
-        VersionsFault::PartOfIndex => of_versions(kinds::PART_OF_VERSION_INDEX, 0),
-        VersionsFault::IndexesUnreadable => of_versions(kinds::VERSION_INDEXES_UNREADABLE, 0),
-        VersionsFault::NoDynamicSymbols => of_versions(kinds::NO_DYNAMIC_SYMBOLS, 0),
-        VersionsFault::CountOfIndexes => of_versions(kinds::COUNT_OF_VERSION_INDEXES, 0),
-        VersionsFault::UnknownIndex { symbol } => {
-            of_versions(kinds::UNKNOWN_VERSION_INDEX, *symbol as u64)
-        }
+        VersionsFault::PartOfIndex => (kinds::PART_OF_VERSION_INDEX, 0, 0),
+        VersionsFault::IndexesUnreadable => (kinds::VERSION_INDEXES_UNREADABLE, 0, 0),
+        VersionsFault::NoDynamicSymbols => (kinds::NO_DYNAMIC_SYMBOLS, 0, 0),
+        VersionsFault::CountOfIndexes => (kinds::COUNT_OF_VERSION_INDEXES, 0, 0),
+        VersionsFault::UnknownIndex { symbol } => (kinds::UNKNOWN_VERSION_INDEX, *symbol as u64, 0),
         VersionsFault::AmbiguousIndex { symbol } => {
-            of_versions(kinds::AMBIGUOUS_VERSION_INDEX, *symbol as u64)
+            (kinds::AMBIGUOUS_VERSION_INDEX, *symbol as u64, 0)
         }
     }
 }
 
 // The fault of a segment of a type.
-fn segment_fault(segment: usize, p_type: u32, found: &SegmentFault) -> NugwierFault
-    ensures { result ≡ segment_fault segment p_type found.now }
+fn segment_fault(p_type: u32, found: &SegmentFault) -> Told
+    ensures { result ≡ segment_fault p_type found.now }
 {
     let (kind, second) = match *found {
         SegmentFault::NoBytes => (kinds::SEGMENT_NO_BYTES, 0),
@@ -274,7 +206,7 @@ fn segment_fault(segment: usize, p_type: u32, found: &SegmentFault) -> NugwierFa
         SegmentFault::EntriesWithoutEnd => (kinds::SEGMENT_NO_NULL, 0),
         SegmentFault::OtherSection => (kinds::SEGMENT_OTHER_SECTION, 0),
     };
-    of_segment(kind, segment, p_type as u64, second)
+    (kind, p_type as u64, second)
 }
 
 // The fault of the segments.
@@ -291,10 +223,10 @@ fn segments_fault(found: &SegmentsFault) -> NugwierFault
         SegmentsFault::Segment {
             index,
             p_type,
-            fault,
-        } => return segment_fault(index, p_type, &fault),
+            fault: own,
+        } => return fault(PART_SEGMENT, index as u64, segment_fault(p_type, &own)),
     };
-    of_segment(kind, index, first as u64, 0)
+    fault(PART_SEGMENT, index as u64, (kind, first as u64, 0))
 }
 
 // A fault of a file.
@@ -302,12 +234,14 @@ pub(crate) fn fault_shown(found: &FileFault) -> NugwierFault
     ensures { result ≡ fault_shown found.now }
 {
     match found {
-        FileFault::NoNames => fault(kinds::NO_NAMES, PART_FILE, 0, 0, 0),
+        FileFault::NoNames => fault(PART_FILE, 0, (kinds::NO_NAMES, 0, 0)),
         FileFault::Repeated { sh_type } => {
-            fault(kinds::REPEATED_TYPE, PART_FILE, 0, *sh_type as u64, 0)
+            fault(PART_FILE, 0, (kinds::REPEATED_TYPE, *sh_type as u64, 0))
         }
-        FileFault::Section { index, fault } => section_fault(*index, fault),
-        FileFault::Versions(fault) => versions_fault(fault),
-        FileFault::Segments(fault) => segments_fault(fault),
+        FileFault::Section { index, fault: own } => {
+            fault(PART_SECTION, *index as u64, section_fault(own))
+        }
+        FileFault::Versions(own) => fault(PART_VERSIONS, 0, versions_fault(own)),
+        FileFault::Segments(own) => segments_fault(own),
     }
 }

@@ -11,7 +11,7 @@ ghost use Rattle.elf_c.specs.Status.{IsWritten, status_of, written};
 
 use crate::records::{NugwierSection, NugwierSegment};
 use crate::status::{NugwierStatus, done, refused};
-use crate::table::{ForC, NugwierTable, class_in, is_64, order_in, records_in};
+use crate::table::{ForC, NugwierTable, class_in, get, is_64, order_in, records_in};
 use elf::headers::Headers;
 use elf::{ElfBytes, LoadedRange, ParseError};
 use elf_parts::endian::{AnyEndian, EndianParse};
@@ -233,16 +233,6 @@ pub extern "C" fn nugwier_section(
     }
 }
 
-// The program header of an index.
-fn segment_at(file: &NugwierFile<'_>, index: usize) -> Result<ProgramHeader, ParseError>
-    ensures { result ≡ segment_at (file_view file.now).segments index }
-{
-    match table_if::<ProgramHeader>(file.has_segments, &file.segments) {
-        Some(segments) => segments.get(index),
-        None => Err(ParseError::BadOffset(index as u64)),
-    }
-}
-
 /// Reads the program header `index` of a file, counted from 0. An error leaves `segment` as it is; the errors are those
 /// of `ParsingTable::get`, and `BadOffset(index)` if the file declares no program headers.
 #[unsafe(no_mangle)]
@@ -255,11 +245,9 @@ pub extern "C" fn nugwier_segment(
     ensures segment { segment.new
         ≡ written segment_shown segment.old (segment_at (file_view file.now).segments index) }
 {
-    match segment_at(file, index) {
-        Ok(found) => {
-            *segment = found.show();
-            done()
-        }
-        Err(error) => refused(&error),
+    if file.has_segments {
+        get::<ProgramHeader>(&file.segments, index, segment)
+    } else {
+        refused(&ParseError::BadOffset(index as u64))
     }
 }

@@ -1,6 +1,5 @@
 //! Look-ups by name in hash sections, and the check of hash sections.
-ghost use Rattle.std.specs.Prelude.{◌≡◌, ◌↔◌, IfOk, IsTrue};
-ghost use Rattle.elf_hash_check.specs.Object.{IsSound};
+ghost use Rattle.std.specs.Prelude.{◌≡◌, IfOk};
 ghost use Rattle.elf_c.specs.Find.{found_shown, gnu_found, sysv_found};
 ghost use Rattle.elf_c.specs.Sound.{FindsFirst, FindsLeast, IsVerdict, gnu_object, hash_object, sysv_object};
 ghost use Rattle.elf_c.specs.Status.{done, status_of, written};

@@ -1,5 +1,5 @@
 //! Hash sections that were opened, and look-ups in them, which do not open them anew.
-ghost use Rattle.std.specs.Prelude.{◌≡◌, IfSome, Ok};
+ghost use Rattle.std.specs.Prelude.{◌≡◌};
 ghost use Rattle.elf_parts.specs.GnuFind.{gnu_find, gnu_section, gnu_view};
 ghost use Rattle.elf_parts.specs.SysvFind.{sysv_find, sysv_section, sysv_view};
 ghost use Rattle.elf_records.specs.Number.{ok_map};
@@ -16,7 +16,7 @@ use elf_parts::file::Class;
 use elf_parts::hash::{GnuHashHeader, GnuHashTable, SysVHashTable};
 use elf_parts::parse::ParseError;
 use elf_parts::string_table::StringTable;
-use elf_parts::symbol::{Symbol, SymbolTable};
+use elf_parts::symbol::SymbolTable;
 
 /// A GNU hash section that was opened: the numbers of its header, its bloom words, the words of its buckets, and its
 /// chain words. It belongs to the caller, and holds nothing that has to be freed.
@@ -163,47 +163,9 @@ fn sysv_table<'data, E: EndianParse>(
     SysVHashTable::from_parts(endian, class, sysv.buckets, sysv.chains)
 }
 
-// What is found in a GNU hash section of a 64-bit little-endian file: the byte order and the class are known to the
-// compiler. `None` is for an error, for which there is no room, and for another file.
-#[inline(always)]
-fn gnu_found_quickly(
-    gnu: &NugwierGnu<'_>,
-    symbols: &NugwierTable<'_>,
-    strings: &[u8],
-    name: &[u8],
-) -> Option<Option<(usize, Symbol)>>
-    ensures { IfSome result (λ found.
-        gnu_find (gnu_of_c gnu.now) (table_of_c symbols.now) strings.now name.now ≡ Ok found) }
-{
-    if !(gnu.little && gnu.is_64 && symbols.little && symbols.is_64) {
-        return None;
-    }
-    let symtab = SymbolTable::new(LittleEndian, Class::ELF64, symbols.bytes);
-    let table = gnu_table(LittleEndian, Class::ELF64, gnu);
-    table.find_quickly(name, &symtab, &StringTable::new(strings))
-}
-
-// The same in a SysV hash section.
-#[inline(always)]
-fn sysv_found_quickly(
-    sysv: &NugwierSysv<'_>,
-    symbols: &NugwierTable<'_>,
-    strings: &[u8],
-    name: &[u8],
-) -> Option<Option<(usize, Symbol)>>
-    ensures { IfSome result (λ found.
-        sysv_find (sysv_of_c sysv.now) (table_of_c symbols.now) strings.now name.now ≡ Ok found) }
-{
-    if !(sysv.little && sysv.is_64 && symbols.little && symbols.is_64) {
-        return None;
-    }
-    let symtab = SymbolTable::new(LittleEndian, Class::ELF64, symbols.bytes);
-    let table = sysv_table(LittleEndian, Class::ELF64, sysv);
-    table.find_quickly(name, &symtab, &StringTable::new(strings))
-}
-
 // Looks a name up in a GNU hash section of any file, and writes what was found. Not inlined: it fills much room for
-// errors.
+// errors. In a 64-bit little-endian file it is called for an error alone: what else is looked up there is found with a
+// byte order and a class that are known to the compiler.
 #[inline(never)]
 fn write_from_gnu(
     gnu: &NugwierGnu<'_>,
@@ -253,10 +215,14 @@ pub extern "C" fn nugwier_gnu_look_up(
     ensures found { found.new ≡ written found_shown found.old
         (gnu_find (gnu_of_c gnu.now) (table_of_c symbols.now) strings.now name.now) }
 {
-    match gnu_found_quickly(gnu, symbols, strings, name) {
-        Some(answer) => write_answer(answer, found),
-        None => write_from_gnu(gnu, symbols, strings, name, found),
+    if gnu.little && gnu.is_64 && symbols.little && symbols.is_64 {
+        let table = gnu_table(LittleEndian, Class::ELF64, gnu);
+        let symtab = SymbolTable::new(LittleEndian, Class::ELF64, symbols.bytes);
+        if let Some(answer) = table.find_quickly(name, &symtab, &StringTable::new(strings)) {
+            return write_answer(answer, found);
+        }
     }
+    write_from_gnu(gnu, symbols, strings, name, found)
 }
 
 /// Looks a name up in a SysV hash section that was opened, for these symbols and their strings. An error leaves `found`
@@ -273,8 +239,12 @@ pub extern "C" fn nugwier_sysv_look_up(
     ensures found { found.new ≡ written found_shown found.old
         (sysv_find (sysv_of_c sysv.now) (table_of_c symbols.now) strings.now name.now) }
 {
-    match sysv_found_quickly(sysv, symbols, strings, name) {
-        Some(answer) => write_answer(answer, found),
-        None => write_from_sysv(sysv, symbols, strings, name, found),
+    if sysv.little && sysv.is_64 && symbols.little && symbols.is_64 {
+        let table = sysv_table(LittleEndian, Class::ELF64, sysv);
+        let symtab = SymbolTable::new(LittleEndian, Class::ELF64, symbols.bytes);
+        if let Some(answer) = table.find_quickly(name, &symtab, &StringTable::new(strings)) {
+            return write_answer(answer, found);
+        }
     }
+    write_from_sysv(sysv, symbols, strings, name, found)
 }

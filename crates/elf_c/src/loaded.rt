@@ -2,13 +2,12 @@
 ghost use Rattle.std.specs.Prelude.{◌≡◌, ◌≤◌, IfErr, IfOk, IfSome, Ok, length};
 ghost use Rattle.std.specs.Option.{option_map};
 ghost use Rattle.elf_records.specs.Number.{ok_map};
-ghost use Rattle.elf_reading.specs.Cache.{covers, last_of};
-ghost use Rattle.elf.specs.LoadedRanges.{part_of};
+ghost use Rattle.elf_reading.specs.Cache.{part_at};
 ghost use Rattle.elf.specs.Parts.{IsPlain};
 ghost use Rattle.elf_c.specs.Loaded.{parts_in, ranges_in};
 
 use crate::file::NugwierFile;
-use elf::{LoadedRange, ParseError, ReadError, last_covering};
+use elf::{LoadedRange, ParseError, ReadError, loaded_part};
 
 /// What is loaded of a file: its size, the bytes at its start, and ranges.
 #[derive(Clone, Copy)]
@@ -19,25 +18,21 @@ pub(crate) struct Loaded<'data> {
 }
 
 impl<'data> Loaded<'data> {
-    // The part that holds the bytes from `start` to `end`: the last of the ranges that does, or else the bytes at the
-    // start of the file.
+    // The bytes from `start` to `end`: of the last of the ranges that holds them, or else of those at the start of the
+    // file.
     #[inline(always)]
-    fn holder(&self, start: u64, end: u64) -> Option<LoadedRange<'data>>
-        requires { start ≤ end }
-        ensures { option_map part_of result
-            ≡ last_of (covers start end) (parts_in self.now.bytes.now self.now.ranges.now) }
+    fn part(&self, start: u64, end: u64) -> Option<&'data [u8]>
+        ensures { option_map (λ part. part.now) result
+            ≡ part_at (parts_in self.now.bytes.now self.now.ranges.now) start end }
     {
-        if let Some(range) = last_covering(self.ranges, start, end) {
-            return Some(*range);
+        if let Some(part) = loaded_part(self.ranges, start, end) {
+            return Some(part);
         }
         let front = LoadedRange {
             start: 0,
             bytes: self.bytes,
         };
-        if front.covers(start, end) {
-            return Some(front);
-        }
-        None
+        front.get(start, end)
     }
 
     /// The bytes of a range that has bytes and that a part holds.
@@ -52,10 +47,7 @@ impl<'data> Loaded<'data> {
         let Some(end) = start.checked_add(count) else {
             return None;
         };
-        match self.holder(start, end) {
-            Some(part) => Some(part.part(start, end)),
-            None => None,
-        }
+        self.part(start, end)
     }
 
     /// The bytes of a range. If no part holds it, the error is that of the file, or the range is not loaded.
@@ -71,8 +63,8 @@ impl<'data> Loaded<'data> {
         if count == 0 && start <= self.size {
             return Ok(&[]);
         }
-        match self.holder(start, end) {
-            Some(part) => Ok(part.part(start, end)),
+        match self.part(start, end) {
+            Some(part) => Ok(part),
             None if self.size < end => Err(ReadError::Parse(ParseError::SliceReadError((
                 start as usize,
                 end as usize,

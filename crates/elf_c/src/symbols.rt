@@ -1,18 +1,18 @@
 //! The tables of a file that its headers lead to: symbols and dynamic entries.
-ghost use Rattle.std.specs.Prelude.{◌≡◌};
-ghost use Rattle.std.specs.Option.{option_map};
-ghost use Rattle.elf_records.specs.Number.{ok_map};
+ghost use Rattle.std.specs.Prelude.{◌≡◌, true};
+ghost use Rattle.elf_records.specs.Table.{table_view};
 ghost use Rattle.elf.specs.Answers.{dynamic, first_symbols};
 ghost use Rattle.elf_c.specs.Loaded.{loaded_of_c};
 ghost use Rattle.elf_c.specs.Status.{IsWrittenIf, read_status};
-ghost use Rattle.elf_c.specs.Symbols.{dynamic_view, no_dynamics_in, no_symbols_in, pair_view, symbols_type};
+ghost use Rattle.elf_c.specs.Symbols.{dynamic_view, no_dynamics_in, no_symbols_in, symbols_type};
 ghost use Rattle.elf_c.specs.Symbols.{symbols_view_of_c};
 ghost use Rattle.elf_c.specs.Tables.{table_of_c};
 
 use crate::file::NugwierFile;
 use crate::status::{NugwierStatus, done, unread};
 use crate::table::{NugwierTable, table_shown};
-use elf::{ReadError, abi, reader};
+use elf::{abi, reader};
+use elf_parts::dynamic::DynamicTable;
 use elf_parts::endian::AnyEndian;
 
 /// The symbols of a file with their strings, if it has any.
@@ -74,6 +74,19 @@ pub extern "C" fn nugwier_symbol_table<'data>(
     }
 }
 
+// Dynamic entries that were found, as C sees them.
+pub(crate) fn dynamics_shown<'data>(
+    entries: &DynamicTable<'data, AnyEndian>,
+) -> NugwierDynamicTable<'data>
+    ensures entries { table_of_c result.entries ≡ table_view entries.now }
+    ensures found { result.found ≡ true }
+{
+    NugwierDynamicTable {
+        found: true,
+        entries: table_shown(entries),
+    }
+}
+
 /// Finds the dynamic entries of a file: those of the first section of type `SHT_DYNAMIC` or, if the file declares no
 /// section headers, of the first segment of type `PT_DYNAMIC`. If there is none, `found` is false, and nothing else is
 /// written. An error leaves `dynamics` as it is; the errors are those of `ElfBytes::dynamic`.
@@ -88,10 +101,7 @@ pub extern "C" fn nugwier_dynamic_table<'data>(
 {
     match reader::dynamic::<AnyEndian, _>(file) {
         Ok(Some(entries)) => {
-            *dynamics = NugwierDynamicTable {
-                found: true,
-                entries: table_shown(&entries),
-            };
+            *dynamics = dynamics_shown(&entries);
             done()
         }
         Ok(None) => {

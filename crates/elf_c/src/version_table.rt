@@ -1,5 +1,5 @@
 //! The versions of the symbols of a file, at the ranges that its headers give.
-ghost use Rattle.std.specs.Prelude.{◌≡◌, IfOk, IfSome, None, Some, false, true};
+ghost use Rattle.std.specs.Prelude.{◌≡◌, IfOk, IfSome, false};
 ghost use Rattle.std.specs.Option.{option_map};
 ghost use Rattle.elf_records.specs.Number.{ok_map};
 ghost use Rattle.elf.specs.Answers.{symbol_version_table};
@@ -20,40 +20,6 @@ use elf::{ReadError, reader};
 use elf_parts::endian::AnyEndian;
 use elf_parts::section::SectionHeader;
 
-// The needs or the definitions of a section.
-fn entries_in<'data>(
-    file: &'data NugwierFile<'data>,
-    shdr: &SectionHeader,
-) -> Result<NugwierEntries<'data>, ReadError>
-    ensures needs { ok_map needs_of_c result ≡ ok_map Some (version_needs (loaded_of_c file.now) shdr.now) }
-    ensures definitions { ok_map definitions_of_c result
-        ≡ ok_map Some (version_definitions (loaded_of_c file.now) shdr.now) }
-    ensures found { IfOk result (λ e. e.found ≡ true) }
-{
-    let bytes = reader::section_part::<AnyEndian, _>(file, shdr)?;
-    let strings = reader::linked_strings::<AnyEndian, _>(file, shdr)?;
-    Ok(NugwierEntries {
-        found: true,
-        count: shdr.sh_info as u64,
-        entries: table_in(file, bytes),
-        strings,
-    })
-}
-
-// No needs and no definitions.
-fn no_entries<'data>(file: &NugwierFile<'data>) -> NugwierEntries<'data>
-    ensures needs { needs_of_c result ≡ None }
-    ensures definitions { definitions_of_c result ≡ None }
-    ensures empty { HasNoEntries file.now result }
-{
-    NugwierEntries {
-        found: false,
-        count: 0,
-        entries: table_in(file, &[]),
-        strings: &[],
-    }
-}
-
 // The needs or the definitions, if there is a section of them.
 fn entries_if<'data>(
     file: &'data NugwierFile<'data>,
@@ -64,10 +30,22 @@ fn entries_if<'data>(
         ≡ if_found (version_definitions (loaded_of_c file.now)) shdr }
     ensures missing { IfOk result (λ e. e.found ≡ false → HasNoEntries file.now e) }
 {
-    match shdr {
-        Some(shdr) => entries_in(file, &shdr),
-        None => Ok(no_entries(file)),
-    }
+    let Some(shdr) = shdr else {
+        return Ok(NugwierEntries {
+            found: false,
+            count: 0,
+            entries: table_in(file, &[]),
+            strings: &[],
+        });
+    };
+    let bytes = reader::section_part::<AnyEndian, _>(file, &shdr)?;
+    let strings = reader::linked_strings::<AnyEndian, _>(file, &shdr)?;
+    Ok(NugwierEntries {
+        found: true,
+        count: shdr.sh_info as u64,
+        entries: table_in(file, bytes),
+        strings,
+    })
 }
 
 // The versions by the indexes of a section.

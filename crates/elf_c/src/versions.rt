@@ -185,17 +185,6 @@ pub extern "C" fn nugwier_requirement<'data>(
     nugwier_placed_requirement(versions, &[], symbol, requirement)
 }
 
-// The table that C gives, again.
-fn same_table<'data>(table: &NugwierTable<'data>) -> NugwierTable<'data>
-    ensures { result ≡ table.now }
-{
-    NugwierTable {
-        little: table.little,
-        is_64: table.is_64,
-        bytes: table.bytes,
-    }
-}
-
 // The names of a definition, before the first is taken.
 fn names_of<'data>(
     definitions: &NugwierEntries<'data>,
@@ -207,7 +196,11 @@ fn names_of<'data>(
     NugwierVersionNames {
         count: definition.count,
         offset: definition.offset,
-        entries: same_table(&definitions.entries),
+        entries: NugwierTable {
+            little: definitions.entries.little,
+            is_64: definitions.entries.is_64,
+            bytes: definitions.entries.bytes,
+        },
         strings: definitions.strings,
     }
 }

@@ -21,13 +21,14 @@ use Rattle.elf.specs.declared.read_error.ReadError.TheVariants.{NotLoaded, Parse
 use Rattle.elf.proofs.Partly.{follows_found, follows_map}
 use Rattle.elf_dynamic.specs.declared.dynamic_view.error.DynamicError.{DynamicError}
 use Rattle.elf_dynamic.specs.declared.dynamic_view.error.DynamicError.TheVariants.{Missing, UnknownKind}
+use Rattle.elf_dynamic.specs.Linked.{Sections, linked_by, place_of}
 use Rattle.elf_dynamic.specs.dynamic_view.Entries.{dynamic_table, entry_size, read_error, required, value_of}
 use Rattle.elf_dynamic.specs.dynamic_view.Hashes.{gnu_at, gnu_count, gnu_from, sysv_at, sysv_header, sysv_size}
 use Rattle.elf_dynamic.specs.dynamic_view.Laws.{FollowsBy, FollowsWhole, ViewFollows}
 use Rattle.elf_dynamic.specs.dynamic_view.Relocations.{PltList, Rels, Relas, is_kind, plt_at, plt_of, plt_relocations, table_at, table_bytes}
 use Rattle.elf_dynamic.specs.dynamic_view.Segments.{bytes_from, bytes_of, part_of, range_of, records_part, rest_of}
 use Rattle.elf_dynamic.specs.dynamic_view.Strings.{string_part, strings}
-use Rattle.elf_dynamic.specs.dynamic_view.Symbols.{count_by, count_by_gnu, known_count, symbol_count, symbol_part, symbols}
+use Rattle.elf_dynamic.specs.dynamic_view.Symbols.{count_by, count_by_gnu, known_count, symbol_count, symbol_part, symbols, symbols_with_strings}
 use Rattle.elf_dynamic.specs.dynamic_view.Tags.{dt_gnu_hash, dt_hash, dt_jmprel, dt_pltrel, dt_pltrelsz, dt_rel, dt_rela, dt_relaent, dt_relasz, dt_relent, dt_relr, dt_relrent, dt_relrsz, dt_relsz, dt_symtab, dt_syment, dt_verdef, dt_verdefnum, dt_verneed, dt_verneednum, dt_versym}
 use Rattle.elf_dynamic.specs.dynamic_view.Versions.{indexes_at, version_definitions, version_entries, version_indexes, version_needs, versions, versions_of}
 
@@ -78,6 +79,11 @@ module _ (whole : ObjectFile) (range : Ranges) (is_missing : ℕ × ℕ → Bool
       (follows_found is_missing (segment_dynamic whole) (segment_dynamic part) (first_segment_of 2 whole.segments) (λ (p : ProgramHeader).
       follows_map is_missing (table_of whole) (whole.range p.p_offset p.p_filesz) (range p.p_offset p.p_filesz) (each p.p_offset p.p_filesz)))
 
+  linked_follows : ViewFollows is_missing (linked_by whole) (linked_by part)
+  linked_follows =
+      if_follows Missing is_missing whole.declares_sections (Ok Sections) (Ok Sections) _ _ (inl refl)
+      (map_follows Missing is_missing place_of (dynamic_table whole) (dynamic_table part) table_follows)
+
   bytes_follow : (a n : ℕ) → ViewFollows is_missing (bytes_of whole a n) (bytes_of part a n)
   bytes_follow a n = same_then Missing is_missing (part_of whole.segments a n) (range_of whole) (range_of part) range_follows
 
@@ -122,6 +128,11 @@ module _ (whole : ObjectFile) (range : Ranges) (is_missing : ℕ × ℕ → Bool
 
   symbols_follow : (es : List Dyn) → ViewFollows is_missing (symbols whole es) (symbols part es)
   symbols_follow es = then_follows Missing is_missing (symbol_part whole es) (symbol_part part es) _ _ (symbol_part_follows es) table_of_follows
+
+  with_strings_follow : (es : List Dyn) → ViewFollows is_missing (symbols_with_strings whole es) (symbols_with_strings part es)
+  with_strings_follow es =
+      then_follows Missing is_missing (symbols whole es) (symbols part es) _ _ (symbols_follow es) (λ table.
+      then_follows Missing is_missing (strings whole es) (strings part es) _ _ (strings_follow es) (λ names. inl refl))
 
   sized_follows : (address size entry : ℤ) (n : ℕ) (es : List Dyn) → ViewFollows is_missing (table_bytes whole address size entry n es) (table_bytes part address size entry n es)
   sized_follows address size entry n es =
@@ -172,11 +183,13 @@ module _ (whole : ObjectFile) (range : Ranges) (is_missing : ℕ × ℕ → Bool
   pub all_follow : FollowsWhole is_missing whole part
   all_follow = record {
     table = table_follows;
+    linked = linked_follows;
     bytes_of = bytes_follow;
     bytes_from = rest_follows;
     strings = strings_follow;
     symbol_count = count_follows;
     symbols = symbols_follow;
+    symbols_with_strings = with_strings_follow;
     sysv_hash = λ es. found_follows Missing is_missing (sysv_at whole) (sysv_at part) (value_of dt_hash es) sysv_follows;
     gnu_hash = λ es. found_follows Missing is_missing (gnu_at whole) (gnu_at part) (value_of dt_gnu_hash es) gnu_at_follows;
     rels = λ es. map_follows Missing is_missing (option_map (records_of rel_reads whole)) _ _ (sized_follows dt_rel dt_relsz dt_relent (size_by rel_layout whole.class) es);

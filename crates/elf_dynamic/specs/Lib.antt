@@ -4,5 +4,7 @@
 pub mod Relr
 -- what is seen of a file through its segments
 pub mod dynamic_view
+-- what says where a file has what is linked
+pub mod Linked
 -- the lines of the configuration of libraries
 pub mod Conf

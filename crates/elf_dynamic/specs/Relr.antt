@@ -1,7 +1,7 @@
 -- Packed relative relocations (gABI, chapters "Sections" and "Relocation", SHT_RELR), as the dynamic linker of the GNU
 -- C library and LLVM read them. At each address that they stand for, the address at which the file is loaded is added
 -- to the word there.
-use Rattle.std.specs.Prelude.{ℕ, zero, suc, ◌+◌, ◌-◌, ◌*◌, ◌%◌, ◌^◌, ◌==◌, if◌then◌else◌, ℤ, pos}
+use Rattle.std.specs.Prelude.{ℕ, zero, suc, ◌+◌, ◌-◌, ◌*◌, ◌%◌, ◌^◌, ◌==◌, if◌then◌else◌}
 use Rattle.std.specs.Prelude.{List, [], ◌∷◌, ◌++◌, Option, Some, None, Result, slice_index, refl}
 use Rattle.std.specs.Int.{bit_at}
 use Rattle.std.specs.List.{filter_map}
@@ -19,21 +19,10 @@ use Rattle.elf_dynamic.specs.declared.relr.MarkedWords.{MarkedWords}
 use Rattle.elf_dynamic.specs.declared.relr.Relr.{Relr}
 use Rattle.elf_dynamic.specs.declared.relr.RelrIterator.{RelrIterator}
 
--- ---- values: gABI, chapters "Sections" and "Dynamic Section"
+-- ---- `sh_type`: gABI, chapter "Sections"
 
--- `sh_type`
 abbrev pub sht_relr : ℕ
 sht_relr = 19
-
--- `d_tag`
-abbrev pub dt_relrsz : ℤ
-dt_relrsz = pos 35
-
-abbrev pub dt_relr : ℤ
-dt_relr = pos 36
-
-abbrev pub dt_relrent : ℤ
-dt_relrent = pos 37
 
 -- ---- a word of the table has the size of an address
 

@@ -22,4 +22,6 @@ pub use relocations::{PltRelocations, address_size, plt_relocations, relas, relr
 pub use segments::{bytes_from, bytes_of, part_of};
 pub use string_table::{name_of, string_part, strings};
 pub use symbol_table::{symbol_count, symbol_part, symbols, symbols_with_strings};
-pub use version_table::{version_definitions, version_indexes, version_needs, versions};
+pub use version_table::{
+    version_definitions, version_indexes, version_needs, versions, versions_of,
+};

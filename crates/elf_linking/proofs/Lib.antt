@@ -4,7 +4,6 @@ pub mod Missing
 pub mod Naming
 mod Copying
 mod Unnamed
-pub mod BySegments
 pub mod Linked
 pub mod Whole
 -- contents that may not be known

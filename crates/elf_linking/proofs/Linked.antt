@@ -1,8 +1,9 @@
 -- What is looked up and bound of a partly loaded file is that of the whole file, or a range is missing.
-use Rattle.std.proofs.Common.{◌≡◌, ℕ, ◌-◌, ◌*◌, ◌^◌, ◌==◌, ◌&&◌, ◌||◌, Bool, List, [], ◌∷◌, inl, Option, Some, None, Result, Ok, Err, refl, sym, ap, subst, map, nat_le, nat_lt, if◌then◌else◌}
-use Rattle.std.specs.Option.{option_map}
+use Rattle.std.proofs.Common.{◌≡◌, ℕ, ◌-◌, ◌*◌, ◌^◌, ◌==◌, ◌&&◌, ◌||◌, Bool, List, [], ◌∷◌, inl, Option, Some, None, Result, Ok, Err, refl, sym, ap, subst, nat_le, nat_lt, if◌then◌else◌}
 use Rattle.elf_abi.specs.Values.{sht_dynsym, sht_gnu_hash, sht_hash, sht_rel, sht_rela}
+use Rattle.elf_records.specs.Number.{ok_map}
 use Rattle.elf_records.specs.Record.{◌>>=◌, size_by}
+use Rattle.elf_records.specs.Relocation.{fields_of_rel, fields_of_rela}
 use Rattle.elf_records.specs.Symbol.{symbol_layout, symbol_reads}
 use Rattle.elf_records.specs.Table.{Table, table_len}
 use Rattle.elf_records.specs.declared.dynamic.Dyn.{Dyn}
@@ -15,10 +16,15 @@ use Rattle.elf.specs.Headers.{first_section_of, if_found}
 use Rattle.elf.specs.ObjectFile.{FileOf, ObjectFile, Partial, Whole, err_map, table_of}
 use Rattle.elf.specs.Parts.{ArePartOf, Follows, Ranges, loaded}
 use Rattle.elf.specs.Readers.{DynamicSymbolTable, SectionData, SectionDataAsRelas, SectionDataAsRels, SymbolVersionTable}
+use Rattle.elf.specs.declared.read_error.ReadError.{ReadError}
 use Rattle.elf.specs.declared.read_error.ReadError.TheVariants.{Parse}
+use Rattle.elf_hash_check.specs.declared.hashcheck.any.HashKind.{HashKind}
+use Rattle.elf_hash_check.specs.declared.hashcheck.any.HashKind.TheVariants.{Gnu, Sysv}
 use Rattle.elf.proofs.Partly.{follows_if, follows_map, part_follows}
+use Rattle.elf_dynamic.specs.declared.dynamic_view.error.DynamicError.{DynamicError}
 use Rattle.elf_dynamic.specs.declared.dynamic_view.error.DynamicError.TheVariants.{Missing, NotLoaded}
-use Rattle.elf_dynamic.specs.dynamic_view.Entries.{dynamic_table, entries_in, required, value_of}
+use Rattle.elf_dynamic.specs.Linked.{Entries, Nothing, Place, Sections, linked_by}
+use Rattle.elf_dynamic.specs.dynamic_view.Entries.{required, value_of}
 use Rattle.elf_dynamic.specs.dynamic_view.Hashes.{gnu_hash}
 use Rattle.elf_dynamic.specs.dynamic_view.Relocations.{plt_relocations, relas, rels}
 use Rattle.elf_dynamic.specs.dynamic_view.Segments.{bytes_from}
@@ -27,14 +33,13 @@ use Rattle.elf_dynamic.specs.dynamic_view.Symbols.{symbols as counted_symbols}
 use Rattle.elf_dynamic.specs.dynamic_view.Tags.{dt_gnu_hash, dt_hash, dt_symtab, dt_versym}
 use Rattle.elf_dynamic.specs.dynamic_view.Versions.{version_definitions, version_needs}
 use Rattle.elf_dynamic.proofs.Following.{all_follow, found_follows, if_follows, map_follows, read_follows, said_follows, same_then, then_follows}
-use Rattle.elf_linking.specs.BySegments.{count_named, entries_of, gnu_bytes, gnu_size, hash_by, hash_section, relocations}
-use Rattle.elf_linking.specs.BySegments.{hash_parts as segment_hash}
-use Rattle.elf_linking.specs.BySegments.{sized_bytes, symbols, symbols_at, symbols_up_to, symbols_with_strings, sysv_at, uses_by_all, versions, versions_at, with_symbols}
-use Rattle.elf_linking.specs.DynamicFile.{dynamic_symbols, dynamic_uses, dynamic_versions, hash_by_sections, hash_parts, if_any, uses_if}
+use Rattle.elf_linking.specs.BySegments.{count_all, count_named, gnu_bytes, gnu_size, relocations, sized_bytes, symbols, symbols_at, symbols_up_to, symbols_with_strings, sysv_at, uses_by_all, versions, versions_at}
+use Rattle.elf_linking.specs.BySegments.{hash_by as table_hash, hash_section as segment_hash}
+use Rattle.elf_linking.specs.DynamicFile.{dynamic_symbols, dynamic_uses, dynamic_versions, hash_by, hash_in, hash_of, hash_parts, hash_section, or_dynamic, section_hash, symbols_by, uses_found, versions_by, with_symbols}
 use Rattle.elf_dynamic.specs.dynamic_view.Laws.{FollowsBy, FollowsWhole}
 use Rattle.elf_linking.specs.Following.{LinksFollow, object_missing, uses_missing}
-use Rattle.elf_linking.specs.ObjectTable.{object_fault, or_fault, or_no_symbols, section_parts}
-use Rattle.elf_linking.specs.SymbolUses.{has_type, is_dynamic, rel_parts, rela_parts, section_uses, sections_uses, uses_after, uses_fault}
+use Rattle.elf_linking.specs.ObjectTable.{HashBytes, object_fault, or_fault, or_no_symbols}
+use Rattle.elf_linking.specs.SymbolUses.{all_parts, has_type, is_dynamic, section_uses, sections_uses, uses_after, uses_fault}
 use Rattle.elf_linking.specs.declared.bindings.uses.SymbolUses.{SymbolUses}
 use Rattle.elf_linking.specs.declared.bindings.uses.UsesError.TheVariants.{Dynamic as Unknown, TooLarge}
 use Rattle.elf_linking.specs.declared.resolve.ObjectFault.TheVariants.{Dynamic}
@@ -60,13 +65,16 @@ module _ (whole : ObjectFile) (range : Ranges) (is_missing : ℕ × ℕ → Bool
   at_follow : (es : List Dyn) (count : ℕ) → FollowsBy Missing is_missing (symbols_at whole es count) (symbols_at part es count)
   at_follow es count = same_then Missing is_missing (required dt_symtab es) _ _ (λ a. map_follows Missing is_missing (table_of whole) _ _ (sized_follows a count (size_by symbol_layout whole.class)))
 
+  count_follows : (es : List Dyn) → FollowsBy Missing is_missing (count_named whole es) (count_named part es)
+  count_follows es = map_follows Missing is_missing count_all (relocations whole es) (relocations part es) (relocations_follow es)
+
   up_to_follow : (es : List Dyn) (counted : Table) (count : ℕ) → FollowsBy Missing is_missing (symbols_up_to whole es counted count) (symbols_up_to part es counted count)
   up_to_follow es counted count = if_follows Missing is_missing (nat_le count (table_len symbol_reads counted)) (Ok counted) (Ok counted) _ _ (inl refl) (at_follow es count)
 
   all_symbols_follow : (es : List Dyn) → FollowsBy Missing is_missing (symbols whole es) (symbols part es)
   all_symbols_follow es =
       then_follows Missing is_missing (counted_symbols whole es) (counted_symbols part es) _ _ (view.symbols es) (λ counted.
-      then_follows Missing is_missing (relocations whole es) (relocations part es) _ _ (relocations_follow es) (λ named. up_to_follow es counted (count_named named)))
+      then_follows Missing is_missing (count_named whole es) (count_named part es) _ _ (count_follows es) (up_to_follow es counted))
 
   with_strings : (es : List Dyn) → FollowsBy Missing is_missing (symbols_with_strings whole es) (symbols_with_strings part es)
   with_strings es =
@@ -79,67 +87,74 @@ module _ (whole : ObjectFile) (range : Ranges) (is_missing : ℕ × ℕ → Bool
       then_follows Missing is_missing (version_needs whole es) (version_needs part es) _ _ (view.needs es) (λ needs.
       then_follows Missing is_missing (version_definitions whole es) (version_definitions part es) _ _ (view.definitions es) (λ definitions. inl refl)))
 
-  versions_follow : (o : Option (List Dyn)) → FollowsBy Missing is_missing (if_any (versions whole) o) (if_any (versions part) o)
-  versions_follow (Some es) = found_follows Missing is_missing (versions_at whole es) (versions_at part es) (value_of dt_versym es) (versions_at_follow es)
-  versions_follow None = inl refl
+  entry_versions_follow : (es : List Dyn) → FollowsBy Missing is_missing (versions whole es) (versions part es)
+  entry_versions_follow es = found_follows Missing is_missing (versions_at whole es) (versions_at part es) (value_of dt_versym es) (versions_at_follow es)
 
-  hash_by_follow : (es : List Dyn) (gnu : Option GnuTable) → FollowsBy Missing is_missing (hash_by whole es gnu) (hash_by part es gnu)
-  hash_by_follow es (Some t) = map_follows Missing is_missing _ (gnu_bytes whole es t) (gnu_bytes part es t) (same_then Missing is_missing (required dt_gnu_hash es) _ _ (λ a. view.bytes_of a (gnu_size whole.class t)))
-  hash_by_follow es None = found_follows Missing is_missing (sysv_at whole) (sysv_at part) (value_of dt_hash es) (λ a. map_follows Missing is_missing _ (bytes_from whole a) (bytes_from part a) (view.bytes_from a))
+  table_hash_follows : (es : List Dyn) (gnu : Option GnuTable) → FollowsBy Missing is_missing (table_hash whole es gnu) (table_hash part es gnu)
+  table_hash_follows es (Some t) = map_follows Missing is_missing _ (gnu_bytes whole es t) (gnu_bytes part es t) (same_then Missing is_missing (required dt_gnu_hash es) _ _ (λ a. view.bytes_of a (gnu_size whole.class t)))
+  table_hash_follows es None = found_follows Missing is_missing (sysv_at whole) (sysv_at part) (value_of dt_hash es) (λ a. map_follows Missing is_missing _ (bytes_from whole a) (bytes_from part a) (view.bytes_from a))
 
-  hash_follows : (es : List Dyn) → FollowsBy Missing is_missing (hash_section whole es) (hash_section part es)
-  hash_follows es = then_follows Missing is_missing (gnu_hash whole es) (gnu_hash part es) _ _ (view.gnu_hash es) (hash_by_follow es)
+  entry_hash_follows : (es : List Dyn) → FollowsBy Missing is_missing (segment_hash whole es) (segment_hash part es)
+  entry_hash_follows es = then_follows Missing is_missing (gnu_hash whole es) (gnu_hash part es) _ _ (view.gnu_hash es) (table_hash_follows es)
 
-  entries_follow : FollowsBy Missing is_missing (entries_of whole) (entries_of part)
-  entries_follow = map_follows Missing is_missing (option_map entries_in) (dynamic_table whole) (dynamic_table part) view.table
+  -- ---- by sections or by entries
+
+  -- what is found in a place, if it is known which one it is
+  placed_follows : {A F : Type 0} (to : DynamicError → F) (f g : Place → Result A F) → ((p : Place) → FollowsBy (λ range. to (Missing range)) is_missing (f p) (g p))
+      → FollowsBy (λ range. to (Missing range)) is_missing (err_map to (linked_by whole) >>= f) (err_map to (linked_by part) >>= g)
+  placed_follows to f g each =
+      then_follows (λ range. to (Missing range)) is_missing (err_map to (linked_by whole)) (err_map to (linked_by part)) f g (said_follows Missing is_missing to (linked_by whole) (linked_by part) view.linked) each
+
+  -- an answer of the reader
+  read : {A : Type 0} (x : Result A ParseError) (y : Result A ReadError) → Follows is_missing x y → FollowsBy object_missing is_missing (or_fault Whole x) (or_fault Partial y)
+  read x y follows = read_follows is_missing (object_fault Whole) (object_fault Partial) (λ e. refl) x y follows
 
   -- ---- the symbols
 
-  table_follows : FollowsBy object_missing is_missing (or_fault Whole (dynamic_symbol_table whole)) (or_fault Partial (dynamic_symbol_table part))
-  table_follows =
-      read_follows is_missing (object_fault Whole) (object_fault Partial) (λ e. refl) (dynamic_symbol_table whole) (dynamic_symbol_table part) (part_follows whole range is_missing each DynamicSymbolTable)
+  symbols_by_follow : (p : Place) → FollowsBy object_missing is_missing (symbols_by whole p) (symbols_by part p)
+  symbols_by_follow Sections = read (dynamic_symbol_table whole) (dynamic_symbol_table part) (part_follows whole range is_missing each DynamicSymbolTable)
+  symbols_by_follow (Entries es) =
+      map_follows object_missing is_missing Some (or_dynamic (symbols_with_strings whole es)) (or_dynamic (symbols_with_strings part es))
+      (said_follows Missing is_missing Dynamic (symbols_with_strings whole es) (symbols_with_strings part es) (with_strings es))
+  symbols_by_follow Nothing = inl refl
 
   symbols_follow : FollowsBy object_missing is_missing (dynamic_symbols whole) (dynamic_symbols part)
-  symbols_follow =
-      if_follows object_missing is_missing whole.declares_sections _ _ _ _ table_follows
-      (said_follows Missing is_missing Dynamic _ _
-      (then_follows Missing is_missing (entries_of whole) (entries_of part) (if_found (symbols_with_strings whole)) (if_found (symbols_with_strings part)) entries_follow (λ o.
-      found_follows Missing is_missing (symbols_with_strings whole) (symbols_with_strings part) o with_strings)))
+  symbols_follow = placed_follows Dynamic (symbols_by whole) (symbols_by part) symbols_by_follow
 
   -- ---- the hash section
 
-  parts_follow : (s : SectionHeader) → FollowsBy object_missing is_missing (section_parts whole s) (section_parts part s)
-  parts_follow s =
-      then_follows object_missing is_missing (or_fault Whole (section_data whole s)) (or_fault Partial (section_data part s)) _ _
-      (read_follows is_missing (object_fault Whole) (object_fault Partial) (λ e. refl) (section_data whole s) (section_data part s) (part_follows whole range is_missing each (SectionData s))) (λ found.
-      then_follows object_missing is_missing (or_fault Whole (dynamic_symbol_table whole) >>= or_no_symbols) (or_fault Partial (dynamic_symbol_table part) >>= or_no_symbols) _ _
-      (then_follows object_missing is_missing (or_fault Whole (dynamic_symbol_table whole)) (or_fault Partial (dynamic_symbol_table part)) or_no_symbols or_no_symbols table_follows (λ o. inl refl)) (λ symbols. inl refl))
+  hash_in_follows : (kind : HashKind) (s : SectionHeader) → Follows is_missing (hash_in whole kind s) (hash_in part kind s)
+  hash_in_follows kind s = follows_map is_missing (λ found. Some (kind, found.0)) (section_data whole s) (section_data part s) (part_follows whole range is_missing each (SectionData s))
 
-  by_sections_follow : (gnu sysv : Option SectionHeader) → FollowsBy object_missing is_missing (hash_by_sections whole gnu sysv) (hash_by_sections part gnu sysv)
-  by_sections_follow (Some s) sysv = map_follows object_missing is_missing _ (section_parts whole s) (section_parts part s) (parts_follow s)
-  by_sections_follow None (Some s) = map_follows object_missing is_missing _ (section_parts whole s) (section_parts part s) (parts_follow s)
-  by_sections_follow None None = inl refl
+  hash_of_follows : (gnu sysv : Option SectionHeader) → Follows is_missing (hash_of whole gnu sysv) (hash_of part gnu sysv)
+  hash_of_follows (Some s) sysv = hash_in_follows Gnu s
+  hash_of_follows None (Some s) = hash_in_follows Sysv s
+  hash_of_follows None None = inl refl
 
-  by_segments_follow : (o : Option (List Dyn)) → FollowsBy Missing is_missing (if_any (segment_hash whole) o) (if_any (segment_hash part) o)
-  by_segments_follow (Some es) =
-      then_follows Missing is_missing (hash_section whole es) (hash_section part es) _ _ (hash_follows es) (λ o.
-      found_follows Missing is_missing (with_symbols whole es) (with_symbols part es) o (λ section. map_follows Missing is_missing _ (symbols_with_strings whole es) (symbols_with_strings part es) (with_strings es)))
-  by_segments_follow None = inl refl
+  hash_by_follows : (p : Place) → FollowsBy object_missing is_missing (hash_by whole p) (hash_by part p)
+  hash_by_follows Sections = read (section_hash whole) (section_hash part) (hash_of_follows (first_section_of sht_gnu_hash whole.sections) (first_section_of sht_hash whole.sections))
+  hash_by_follows (Entries es) = said_follows Missing is_missing Dynamic (segment_hash whole es) (segment_hash part es) (entry_hash_follows es)
+  hash_by_follows Nothing = inl refl
+
+  with_symbols_follow : (section : HashBytes) → FollowsBy object_missing is_missing (with_symbols whole section) (with_symbols part section)
+  with_symbols_follow section =
+      then_follows object_missing is_missing (dynamic_symbols whole >>= or_no_symbols) (dynamic_symbols part >>= or_no_symbols) _ _
+      (then_follows object_missing is_missing (dynamic_symbols whole) (dynamic_symbols part) or_no_symbols or_no_symbols symbols_follow (λ o. inl refl)) (λ symbols. inl refl)
 
   parts_of_hash_follow : FollowsBy object_missing is_missing (hash_parts whole) (hash_parts part)
   parts_of_hash_follow =
-      if_follows object_missing is_missing whole.declares_sections _ _ _ _ (by_sections_follow (first_section_of sht_gnu_hash whole.sections) (first_section_of sht_hash whole.sections))
-      (said_follows Missing is_missing Dynamic _ _
-      (then_follows Missing is_missing (entries_of whole) (entries_of part) (if_any (segment_hash whole)) (if_any (segment_hash part)) entries_follow by_segments_follow))
+      then_follows object_missing is_missing (hash_section whole) (hash_section part) (if_found (with_symbols whole)) (if_found (with_symbols part))
+      (placed_follows Dynamic (hash_by whole) (hash_by part) hash_by_follows) (λ o. found_follows object_missing is_missing (with_symbols whole) (with_symbols part) o with_symbols_follow)
 
   -- ---- the versions
 
-  all_versions_follow : FollowsBy object_missing is_missing (dynamic_versions whole) (dynamic_versions part)
-  all_versions_follow =
-      if_follows object_missing is_missing whole.declares_sections _ _ _ _
-      (read_follows is_missing (object_fault Whole) (object_fault Partial) (λ e. refl) (symbol_version_table whole) (symbol_version_table part) (part_follows whole range is_missing each SymbolVersionTable))
-      (said_follows Missing is_missing Dynamic _ _
-      (then_follows Missing is_missing (entries_of whole) (entries_of part) (if_any (versions whole)) (if_any (versions part)) entries_follow versions_follow))
+  versions_by_follow : (p : Place) → FollowsBy object_missing is_missing (versions_by whole p) (versions_by part p)
+  versions_by_follow Sections = read (symbol_version_table whole) (symbol_version_table part) (part_follows whole range is_missing each SymbolVersionTable)
+  versions_by_follow (Entries es) = said_follows Missing is_missing Dynamic (versions whole es) (versions part es) (entry_versions_follow es)
+  versions_by_follow Nothing = inl refl
+
+  versions_follow : FollowsBy object_missing is_missing (dynamic_versions whole) (dynamic_versions part)
+  versions_follow = placed_follows Dynamic (versions_by whole) (versions_by part) versions_by_follow
 
   -- ---- the uses of symbols
 
@@ -153,9 +168,9 @@ module _ (whole : ObjectFile) (range : Ranges) (is_missing : ℕ × ℕ → Bool
   section_uses_follow : (machine : ℕ) (s : SectionHeader) (uses : List SymbolUses) → Follows is_missing (section_uses machine whole s uses) (section_uses machine part s uses)
   section_uses_follow machine s uses =
       follows_if is_missing (s.sh_type == sht_rel) _ _ _ _
-      (follows_map is_missing (λ rels. uses_after machine uses (map rel_parts rels)) (section_data_as_rels whole s) (section_data_as_rels part s) (part_follows whole range is_missing each (SectionDataAsRels s)))
+      (follows_map is_missing (λ rels. uses_after machine uses (all_parts fields_of_rel rels)) (section_data_as_rels whole s) (section_data_as_rels part s) (part_follows whole range is_missing each (SectionDataAsRels s)))
       (follows_if is_missing (s.sh_type == sht_rela) _ _ (Ok uses) (Ok uses)
-      (follows_map is_missing (λ relas. uses_after machine uses (map rela_parts relas)) (section_data_as_relas whole s) (section_data_as_relas part s) (part_follows whole range is_missing each (SectionDataAsRelas s))) (inl refl))
+      (follows_map is_missing (λ relas. uses_after machine uses (all_parts fields_of_rela relas)) (section_data_as_relas whole s) (section_data_as_relas part s) (part_follows whole range is_missing each (SectionDataAsRelas s))) (inl refl))
 
   sections_follow : (machine left : ℕ) (sections : List SectionHeader) (uses : List SymbolUses) → FollowsBy uses_missing is_missing (sections_uses machine whole left sections uses) (sections_uses machine part left sections uses)
   sections_follow machine left [] uses = inl refl
@@ -170,15 +185,15 @@ module _ (whole : ObjectFile) (range : Ranges) (is_missing : ℕ × ℕ → Bool
       (read_follows is_missing (uses_fault Whole) (uses_fault Partial) (λ e. refl) (section_uses machine whole s uses) (section_uses machine part s uses) (section_uses_follow machine s uses)) (sections_follow machine (left - s.sh_size) sections)))
       (sections_follow machine left sections uses))
 
-  uses_if_follow : (machine : ℕ) (uses : List SymbolUses) (o : Option (List Dyn)) → FollowsBy Missing is_missing (uses_if machine whole uses o) (uses_if machine part uses o)
-  uses_if_follow machine uses (Some es) = map_follows Missing is_missing (uses_by_all machine uses) (relocations whole es) (relocations part es) (relocations_follow es)
-  uses_if_follow machine uses None = inl refl
+  uses_found_follow : (machine : ℕ) (uses : List SymbolUses) (p : Place) → FollowsBy uses_missing is_missing (uses_found machine whole uses p) (uses_found machine part uses p)
+  uses_found_follow machine uses Sections = sections_follow machine whole.size whole.sections uses
+  uses_found_follow machine uses (Entries es) =
+      said_follows Missing is_missing Unknown (ok_map (uses_by_all machine uses) (relocations whole es)) (ok_map (uses_by_all machine uses) (relocations part es))
+      (map_follows Missing is_missing (uses_by_all machine uses) (relocations whole es) (relocations part es) (relocations_follow es))
+  uses_found_follow machine uses Nothing = inl refl
 
   uses_follow : (machine : ℕ) (uses : List SymbolUses) → FollowsBy uses_missing is_missing (dynamic_uses machine whole uses) (dynamic_uses machine part uses)
-  uses_follow machine uses =
-      if_follows uses_missing is_missing whole.declares_sections _ _ _ _ (sections_follow machine whole.size whole.sections uses)
-      (said_follows Missing is_missing Unknown _ _
-      (then_follows Missing is_missing (entries_of whole) (entries_of part) (uses_if machine whole uses) (uses_if machine part uses) entries_follow (uses_if_follow machine uses)))
+  uses_follow machine uses = placed_follows Unknown (uses_found machine whole uses) (uses_found machine part uses) (uses_found_follow machine uses)
 
   pub links_follow : LinksFollow is_missing whole part
-  links_follow = record { symbols = symbols_follow; hash = parts_of_hash_follow; versions = all_versions_follow; uses = uses_follow }
+  links_follow = record { symbols = symbols_follow; hash = parts_of_hash_follow; versions = versions_follow; uses = uses_follow }

@@ -2,20 +2,19 @@
 use Rattle.std.proofs.Common.{◌≡◌, ℕ, ◌-◌, ◌==◌, Bool, true, false, List, [], ◌∷◌, inl, inr, Option, Some, None, Result, Ok, Err, refl, sym, ap, nat_lt, if◌then◌else◌, ◌∙◌}
 use Rattle.elf_records.specs.Number.{ok_map}
 use Rattle.elf_records.specs.Record.{◌>>=◌}
-use Rattle.elf_records.specs.declared.dynamic.Dyn.{Dyn}
 use Rattle.elf_records.specs.declared.section.SectionHeader.{SectionHeader}
 use Rattle.elf.specs.Answers.{section_data_as_relas, section_data_as_rels}
 use Rattle.elf.specs.ObjectFile.{Extent, FileOf, ObjectFile, Partial, err_map}
 use Rattle.elf_abi.specs.Values.{sht_rel, sht_rela}
-use Rattle.elf_dynamic.specs.declared.dynamic_view.error.DynamicError.{DynamicError}
-use Rattle.elf_linking.specs.BySegments.{entries_of, relocations}
-use Rattle.elf_linking.specs.DynamicFile.{dynamic_uses, uses_if}
+use Rattle.elf_dynamic.specs.Linked.{Entries, Nothing, Place, Sections, linked_by}
+use Rattle.elf_linking.specs.BySegments.{relocations, uses_by_all}
+use Rattle.elf_linking.specs.DynamicFile.{dynamic_uses, or_unknown, uses_found}
 use Rattle.elf_dynamic.specs.dynamic_view.Laws.{FollowsBy}
 use Rattle.elf_linking.specs.Following.{HasLinks, IsThere, LinksFollow, SameLinks, object_missing, uses_missing}
 use Rattle.elf_linking.specs.SymbolUses.{is_dynamic, section_uses, sections_uses, uses_fault}
 use Rattle.elf_linking.specs.declared.bindings.uses.SymbolUses.{SymbolUses}
 use Rattle.elf_linking.specs.declared.bindings.uses.UsesError.{UsesError}
-use Rattle.elf_linking.specs.declared.bindings.uses.UsesError.TheVariants.{TooLarge}
+use Rattle.elf_linking.specs.declared.bindings.uses.UsesError.TheVariants.{Dynamic, TooLarge}
 use Rattle.elf_linking.specs.declared.resolve.ObjectFault.{ObjectFault}
 use Rattle.elf_linking.specs.inner.Missed.{missing_in, missing_uses}
 
@@ -55,6 +54,10 @@ bind_alike (Err e) (Err d) f g same later = same
 bind_alike (Ok a) (Err d) f g same later = absurd (cc same)
 bind_alike (Err e) (Ok b) f g same later = absurd (cc same)
 
+then_alike : {A B C E : Type 0} (x : Result A E) (f : A → Result B E) (g : A → Result C E) → ((a : A) → error_of (f a) ≡ error_of (g a)) → error_of (x >>= f) ≡ error_of (x >>= g)
+then_alike (Ok a) f g later = later a
+then_alike (Err e) f g later = refl
+
 map_alike : {A B C E : Type 0} (f : A → B) (g : A → C) (x : Result A E) → error_of (ok_map f x) ≡ error_of (ok_map g x)
 map_alike f g (Ok a) = refl
 map_alike f g (Err e) = refl
@@ -84,20 +87,13 @@ module _ {x : Extent} (file : FileOf x) (one other : ℕ) where
       (said_alike (uses_fault x) _ _ (section_alike s uses others)) (λ a b. sections_alike (left - s.sh_size) sections a b)))
       (sections_alike left sections uses others)
 
-  segments_alike : (uses others : List SymbolUses) (o p : Option (List Dyn)) → o ≡ p → error_of (uses_if one file uses o) ≡ error_of (uses_if other file others p)
-  segments_alike uses others (Some es) (Some ds) same = let is : es ≡ ds = cc same in rw is (map_alike _ _ (relocations file ds))
-  segments_alike uses others None None same = refl
-  segments_alike uses others (Some es) None same = absurd (cc same)
-  segments_alike uses others None (Some ds) same = absurd (cc same)
-
-  entries_alike : (r : Result (Option (List Dyn)) DynamicError) (uses others : List SymbolUses) → error_of (r >>= uses_if one file uses) ≡ error_of (r >>= uses_if other file others)
-  entries_alike (Ok o) uses others = segments_alike uses others o o refl
-  entries_alike (Err e) uses others = refl
+  found_alike : (uses others : List SymbolUses) (p : Place) → error_of (uses_found one file uses p) ≡ error_of (uses_found other file others p)
+  found_alike uses others Sections = sections_alike file.size file.sections uses others
+  found_alike uses others (Entries es) = said_alike Dynamic _ _ (map_alike (uses_by_all one uses) (uses_by_all other others) (relocations file es))
+  found_alike uses others Nothing = refl
 
   uses_alike : (uses others : List SymbolUses) → error_of (dynamic_uses one file uses) ≡ error_of (dynamic_uses other file others)
-  uses_alike uses others =
-      if_alike file.declares_sections _ _ _ _ (sections_alike file.size file.sections uses others)
-      (said_alike _ (entries_of file >>= uses_if one file uses) (entries_of file >>= uses_if other file others) (entries_alike (entries_of file) uses others))
+  uses_alike uses others = then_alike (or_unknown (linked_by file)) (uses_found one file uses) (uses_found other file others) (found_alike uses others)
 
 abbrev missing_of_error : UsesError → Option (ℕ × ℕ)
 missing_of_error e = missing_uses {A = Unit {0}} (Err e)

@@ -1,11 +1,12 @@
--- What the dynamic linker uses of a file through its segments: the relocations, the symbols with their strings and their
+-- What the dynamic linker uses of a file by its dynamic entries: the relocations, the symbols with their strings and their
 -- versions, and the hash table (gABI, chapters "Dynamic Section" and "Hash Table").
-use Rattle.std.specs.Prelude.{ℕ, ◌+◌, ◌*◌, ◌^◌, max, nat_le, if◌then◌else◌, List, [], ◌∷◌, length, map}
+use Rattle.std.specs.Prelude.{ℕ, ◌+◌, ◌*◌, ◌^◌, max, nat_le, if◌then◌else◌, List, [], ◌∷◌, length}
 use Rattle.std.specs.Prelude.{Option, Some, None, Result, Ok, Err}
 use Rattle.std.specs.Option.{option_map}
 use Rattle.elf_records.specs.Class.{address_size}
 use Rattle.elf_records.specs.Number.{ok_map}
 use Rattle.elf_records.specs.Record.{◌>>=◌, size_by}
+use Rattle.elf_records.specs.Relocation.{fields_of_rel, fields_of_rela}
 use Rattle.elf_records.specs.Symbol.{symbol_layout, symbol_reads}
 use Rattle.elf_records.specs.Table.{Table, table_len}
 use Rattle.elf_records.specs.declared.dynamic.Dyn.{Dyn}
@@ -16,26 +17,25 @@ use Rattle.elf.specs.Headers.{if_found}
 use Rattle.elf.specs.ObjectFile.{Extent, FileOf, table_of}
 use Rattle.elf_dynamic.specs.declared.dynamic_view.error.DynamicError.{DynamicError}
 use Rattle.elf_dynamic.specs.declared.dynamic_view.error.DynamicError.TheVariants.{NotLoaded}
-use Rattle.elf_dynamic.specs.dynamic_view.Entries.{dynamic_table, entries_in, required, value_of}
+use Rattle.elf_dynamic.specs.dynamic_view.Entries.{required, value_of}
 use Rattle.elf_dynamic.specs.dynamic_view.Hashes.{gnu_hash}
 use Rattle.elf_dynamic.specs.dynamic_view.Relocations.{PltList, Relas, Rels, plt_relocations, relas, rels}
 use Rattle.elf_dynamic.specs.dynamic_view.Segments.{bytes_from, bytes_of}
 use Rattle.elf_dynamic.specs.dynamic_view.Strings.{strings}
 use Rattle.elf_dynamic.specs.dynamic_view.Symbols.{symbols as counted_symbols}
 use Rattle.elf_dynamic.specs.dynamic_view.Tags.{dt_gnu_hash, dt_hash, dt_symtab, dt_versym}
-use Rattle.elf_dynamic.specs.dynamic_view.Versions.{version_definitions, version_needs}
-use Rattle.elf_hash_check.specs.declared.hashcheck.any.HashKind.{HashKind}
+use Rattle.elf_dynamic.specs.dynamic_view.Versions.{versions_of}
 use Rattle.elf_hash_check.specs.declared.hashcheck.any.HashKind.TheVariants.{Gnu, Sysv}
-use Rattle.elf_linking.specs.ObjectTable.{HashParts}
-use Rattle.elf_linking.specs.SymbolUses.{rel_parts, rela_parts, uses_after}
+use Rattle.elf_linking.specs.ObjectTable.{HashBytes}
+use Rattle.elf_linking.specs.SymbolUses.{all_parts, uses_after}
 use Rattle.elf_linking.specs.declared.bindings.uses.SymbolUses.{SymbolUses}
 
 -- ---- relocations, each by the index of its symbol and its type
 
 abbrev pub list_of : Option PltList → List (ℕ × ℕ)
 list_of None = []
-list_of (Some (Rels rels)) = map rel_parts rels
-list_of (Some (Relas relas)) = map rela_parts relas
+list_of (Some (Rels rels)) = all_parts fields_of_rel rels
+list_of (Some (Relas relas)) = all_parts fields_of_rela relas
 
 -- those without addends, those with addends, and those of the procedure linkage table
 pub record RelocationLists : Type 0 where
@@ -56,12 +56,15 @@ abbrev pub named_count : ℕ → List (ℕ × ℕ) → ℕ
 named_count count [] = count
 named_count count (r ∷ relocations) = named_count (max count (r.0 + 1)) relocations
 
-abbrev pub count_named : RelocationLists → ℕ
-count_named r = named_count (named_count (named_count 0 r.rels) r.relas) r.plt
+abbrev pub count_all : RelocationLists → ℕ
+count_all r = named_count (named_count (named_count 0 r.rels) r.relas) r.plt
+
+abbrev pub count_named : {x : Extent} → FileOf x → List Dyn → Result ℕ DynamicError
+count_named file entries = ok_map count_all (relocations file entries)
 
 -- ---- symbols
 
--- this many symbols at an address; no segment has 2^64 bytes or more
+-- this many records of a size at an address; no segment has 2^64 bytes or more
 abbrev pub sized_bytes : {x : Extent} → FileOf x → ℕ → ℕ → ℕ → Result (List ℕ) DynamicError
 sized_bytes file address count size =
     if nat_le (2 ^ 64) (count * size) then Err (NotLoaded address) else bytes_of file address (count * size)
@@ -80,8 +83,7 @@ symbols_up_to file entries counted count =
 -- files define, and relocations name these.
 abbrev pub symbols : {x : Extent} → FileOf x → List Dyn → Result Table DynamicError
 symbols file entries =
-    counted_symbols file entries >>= λ counted. relocations file entries >>= λ named.
-    symbols_up_to file entries counted (count_named named)
+    counted_symbols file entries >>= λ counted. count_named file entries >>= symbols_up_to file entries counted
 
 -- with the strings that their names lie in
 abbrev pub symbols_with_strings : {x : Extent} → FileOf x → List Dyn → Result (Table × List ℕ) DynamicError
@@ -92,9 +94,7 @@ symbols_with_strings file entries =
 
 abbrev pub versions_at : {x : Extent} → FileOf x → List Dyn → ℕ → Result Versions DynamicError
 versions_at file entries address =
-    bytes_from file address >>= λ indexes. version_needs file entries >>= λ needs.
-    version_definitions file entries >>= λ definitions.
-    Ok (record { indexes = table_of file indexes; needs = needs; definitions = definitions })
+    bytes_from file address >>= λ indexes. versions_of file entries (table_of file indexes)
 
 abbrev pub versions : {x : Extent} → FileOf x → List Dyn → Result (Option Versions) DynamicError
 versions file entries = if_found (versions_at file entries) (value_of dt_versym entries)
@@ -110,26 +110,13 @@ abbrev pub gnu_bytes : {x : Extent} → FileOf x → List Dyn → GnuTable → R
 gnu_bytes file entries t =
     required dt_gnu_hash entries >>= λ address. bytes_of file address (gnu_size file.class t)
 
-abbrev pub sysv_at : {x : Extent} → FileOf x → ℕ → Result (HashKind × List ℕ) DynamicError
+abbrev pub sysv_at : {x : Extent} → FileOf x → ℕ → Result HashBytes DynamicError
 sysv_at file address = ok_map (λ bytes. (Sysv, bytes)) (bytes_from file address)
 
 -- the GNU section, or if there is none the SysV section, if there is one
-abbrev pub hash_by : {x : Extent} → FileOf x → List Dyn → Option GnuTable → Result (Option (HashKind × List ℕ)) DynamicError
+abbrev pub hash_by : {x : Extent} → FileOf x → List Dyn → Option GnuTable → Result (Option HashBytes) DynamicError
 hash_by file entries (Some t) = ok_map (λ bytes. Some (Gnu, bytes)) (gnu_bytes file entries t)
 hash_by file entries None = if_found (sysv_at file) (value_of dt_hash entries)
 
-abbrev pub hash_section : {x : Extent} → FileOf x → List Dyn → Result (Option (HashKind × List ℕ)) DynamicError
+abbrev pub hash_section : {x : Extent} → FileOf x → List Dyn → Result (Option HashBytes) DynamicError
 hash_section file entries = gnu_hash file entries >>= hash_by file entries
-
--- with what it is checked over: the symbols, and the strings that their names lie in
-abbrev pub with_symbols : {x : Extent} → FileOf x → List Dyn → HashKind × List ℕ → Result HashParts DynamicError
-with_symbols file entries section =
-    ok_map (λ symbols. (section.0, (section.1, symbols))) (symbols_with_strings file entries)
-
-abbrev pub hash_parts : {x : Extent} → FileOf x → List Dyn → Result (Option HashParts) DynamicError
-hash_parts file entries = hash_section file entries >>= if_found (with_symbols file entries)
-
--- ---- of a file, if it has dynamic entries
-
-abbrev pub entries_of : {x : Extent} → FileOf x → Result (Option (List Dyn)) DynamicError
-entries_of file = ok_map (option_map entries_in) (dynamic_table file)

@@ -4,8 +4,8 @@ use Rattle.std.specs.Prelude.{List, [], ◌∷◌, length, map, slice_index_or, 
 use Rattle.elf_abi.specs.Values.{sht_dynsym, sht_rel, sht_rela}
 use Rattle.elf_records.specs.Number.{ok_map}
 use Rattle.elf_records.specs.Record.{◌>>=◌}
-use Rattle.elf_records.specs.declared.relocation.Rel.{Rel}
-use Rattle.elf_records.specs.declared.relocation.Rela.{Rela}
+use Rattle.elf_records.specs.Relocation.{fields_of_rel, fields_of_rela}
+use Rattle.elf_records.specs.declared.relocation.RelocationFields.{RelocationFields}
 use Rattle.elf_records.specs.declared.section.SectionHeader.{SectionHeader}
 use Rattle.elf.specs.Answers.{section_data_as_relas, section_data_as_rels}
 use Rattle.elf.specs.ObjectFile.{ErrorOf, Extent, FileOf, Partial, Whole, err_map}
@@ -43,11 +43,12 @@ uses_after machine uses [] = uses
 uses_after machine uses (r ∷ relocations) =
     uses_after machine (use_added uses r.0 (reference_kind machine r.1)) relocations
 
-abbrev pub rel_parts : Rel → ℕ × ℕ
-rel_parts r = (r.r_sym, r.r_type)
+abbrev pub parts_of : RelocationFields → ℕ × ℕ
+parts_of r = (r.r_sym, r.r_type)
 
-abbrev pub rela_parts : Rela → ℕ × ℕ
-rela_parts r = (r.r_sym, r.r_type)
+-- those of relocations with these fields
+abbrev pub all_parts : {P : Type 0} → (P → RelocationFields) → List P → List (ℕ × ℕ)
+all_parts fields relocations = map (λ r. parts_of (fields r)) relocations
 
 -- ---- those of a file for this machine
 
@@ -64,9 +65,9 @@ abbrev pub section_uses : {x : Extent} → ℕ → FileOf x → SectionHeader �
     Result (List SymbolUses) (ErrorOf x)
 section_uses machine file s uses =
     if s.sh_type == sht_rel
-    then ok_map (λ rels. uses_after machine uses (map rel_parts rels)) (section_data_as_rels file s)
+    then ok_map (λ rels. uses_after machine uses (all_parts fields_of_rel rels)) (section_data_as_rels file s)
     else if s.sh_type == sht_rela
-    then ok_map (λ relas. uses_after machine uses (map rela_parts relas)) (section_data_as_relas file s)
+    then ok_map (λ relas. uses_after machine uses (all_parts fields_of_rela relas)) (section_data_as_relas file s)
     else Ok uses
 
 -- why they cannot be read

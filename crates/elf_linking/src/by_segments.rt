@@ -1,175 +1,99 @@
-//! What the dynamic linker uses of a file, through its segments: the relocations, the symbols with their strings and
-//! their versions, and the hash table.
-ghost use Rattle.std.specs.Prelude.{◌≡◌, ◌^◌, map};
+//! What the dynamic linker uses of a file, by its dynamic entries: the relocations, the symbols with their strings and
+//! their versions, and the hash section.
+ghost use Rattle.std.specs.Prelude.{◌≡◌};
 ghost use Rattle.std.specs.Option.{option_map};
-ghost use Rattle.elf.specs.Answers.{relas_left, rels_left, symbols_view};
+ghost use Rattle.elf.specs.Answers.{symbols_view};
 ghost use Rattle.elf.specs.Parts.{loaded};
 ghost use Rattle.elf_dynamic.specs.dynamic_view.Entries.{entries_in};
-ghost use Rattle.elf_dynamic.specs.dynamic_view.Relocations.{Relas, Rels, plt_left};
-ghost use Rattle.elf_linking.specs.BySegments.{count_named, gnu_bytes, gnu_size, hash_by, hash_parts, hash_section};
-ghost use Rattle.elf_linking.specs.BySegments.{list_of};
-ghost use Rattle.elf_linking.specs.BySegments.{named_count, relocations, sized_bytes, symbols, symbols_at};
-ghost use Rattle.elf_linking.specs.BySegments.{symbols_up_to, symbols_with_strings, sysv_at, uses_by_all};
-ghost use Rattle.elf_linking.specs.BySegments.{versions, versions_at};
-ghost use Rattle.elf_linking.specs.SymbolUses.{rel_parts, rela_parts, uses_after};
-ghost use Rattle.elf_linking.specs.inner.BySegments.{hash_view, relocations_view, section_view};
+ghost use Rattle.elf_linking.specs.BySegments.{count_named, gnu_bytes, hash_section, named_count};
+ghost use Rattle.elf_linking.specs.BySegments.{relocations, symbols, symbols_at, symbols_with_strings, uses_by_all};
+ghost use Rattle.elf_linking.specs.BySegments.{versions};
+ghost use Rattle.elf_linking.specs.SymbolUses.{all_parts};
+ghost use Rattle.elf_linking.specs.inner.BySegments.{section_view};
 ghost use Rattle.elf_parts.specs.GnuFind.{gnu_view};
 ghost use Rattle.elf_parts.specs.gnu_symver.Table.{versions_view};
 ghost use Rattle.elf_records.specs.Number.{ok_map};
-ghost use Rattle.elf_records.specs.Table.{table_view};
+ghost use Rattle.elf_records.specs.Table.{items_left, table_view};
 
-use crate::bindings::uses::{SymbolUses, add_relas, add_rels};
-use crate::resolve::HashParts;
+use crate::bindings::uses::{SymbolUses, add_each};
+use crate::resolve::HashBytes;
 use elf::abi;
 use elf::dynamic::DynamicTable;
 use elf::endian::EndianParse;
-use elf::file::Class;
 use elf::gnu_symver::{SymbolVersionTable, VersionIndexTable};
 use elf::hash::GnuHashTable;
 use elf::reader::Reader;
-use elf::relocation::{RelIterator, RelaIterator};
+use elf::relocation::Relocation;
 use elf::string_table::StringTable;
 use elf::symbol::{Symbol, SymbolTable};
 use elf_dynamic::dynamic_view;
 use elf_dynamic::dynamic_view::{DynamicError, PltRelocations, address_size};
 use elf_hash_check::hashcheck::HashKind;
-use elf_parts::parse::ParseAt;
+use elf_parts::parse::{ParseAt, ParsingIterator};
 
 // ---- relocations
 
-// The relocations of a file, each of the three lists of either kind.
-#[derive(Drop)]
-pub(crate) struct RelocationLists<'f, E: EndianParse> {
-    rels: Option<PltRelocations<'f, E>>,
-    relas: Option<PltRelocations<'f, E>>,
-    plt: Option<PltRelocations<'f, E>>,
-}
-
-fn without_addends<E: EndianParse>(
-    rels: Option<RelIterator<'_, E>>,
-) -> Option<PltRelocations<'_, E>>
-    ensures { option_map plt_left result ≡ option_map Rels (option_map rels_left rels.entry) }
-{
-    match rels {
-        Some(rels) => Some(PltRelocations::Rel(rels)),
-        None => None,
-    }
-}
-
-fn with_addends<E: EndianParse>(relas: Option<RelaIterator<'_, E>>) -> Option<PltRelocations<'_, E>>
-    ensures { option_map plt_left result ≡ option_map Relas (option_map relas_left relas.entry) }
-{
-    match relas {
-        Some(relas) => Some(PltRelocations::Rela(relas)),
-        None => None,
-    }
-}
-
-// Those of a file.
-pub(crate) fn relocations<'f, E: EndianParse, R: Reader<E>>(
-    file: &'f R,
-    entries: &DynamicTable<'_, E>,
-) -> Result<RelocationLists<'f, E>, DynamicError>
-    ensures { ok_map relocations_view result
-        ≡ relocations (loaded (R.file file.now) (R.ranges file.now)) (entries_in (table_view entries.now)) }
-{
-    let rels = dynamic_view::rels(file, entries)?;
-    let relas = dynamic_view::relas(file, entries)?;
-    let plt = dynamic_view::plt_relocations(file, entries)?;
-    Ok(RelocationLists {
-        rels: without_addends(rels),
-        relas: with_addends(relas),
-        plt,
-    })
-}
-
-// Adds the uses of a list.
-fn add_list<E: EndianParse>(
+/// Adds the uses that all relocations make.
+pub(crate) fn add_relocations<E: EndianParse, R: Reader<E>>(
     machine: u16,
-    list: Option<PltRelocations<'_, E>>,
+    file: &R,
+    entries: &DynamicTable<'_, E>,
     uses: &mut [SymbolUses],
-)
-    ensures { uses.new ≡ uses_after machine uses.old (list_of (option_map plt_left list.entry)) }
+) -> Result<(), DynamicError>
+    ensures { ok_map (λ _. uses.new) result ≡ ok_map (uses_by_all machine uses.old)
+        (relocations (loaded (R.file file.now) (R.ranges file.now)) (entries_in (table_view entries.now))) }
 {
-    match list {
-        Some(PltRelocations::Rel(rels)) => add_rels(machine, rels, uses),
-        Some(PltRelocations::Rela(relas)) => add_relas(machine, relas, uses),
+    if let Some(rels) = dynamic_view::rels(file, entries)? {
+        add_each(machine, rels, uses);
+    }
+    if let Some(relas) = dynamic_view::relas(file, entries)? {
+        add_each(machine, relas, uses);
+    }
+    match dynamic_view::plt_relocations(file, entries)? {
+        Some(PltRelocations::Rel(rels)) => add_each(machine, rels, uses),
+        Some(PltRelocations::Rela(relas)) => add_each(machine, relas, uses),
         None => {}
     }
+    Ok(())
 }
 
-// Adds the uses of all.
-pub(crate) fn add_all<E: EndianParse>(
-    machine: u16,
-    relocations: RelocationLists<'_, E>,
-    uses: &mut [SymbolUses],
-)
-    ensures { uses.new ≡ uses_by_all machine uses.old (relocations_view relocations.entry) }
-{
-    add_list(machine, relocations.rels, uses);
-    add_list(machine, relocations.relas, uses);
-    add_list(machine, relocations.plt, uses);
-}
-
-// One past the largest index of a symbol that relocations without addends name, and at least this number.
-fn count_rels<E: EndianParse>(count: u64, rels: RelIterator<'_, E>) -> u64
-    ensures { result ≡ named_count count (map rel_parts (rels_left rels.entry)) }
+// One past the largest index of a symbol that relocations name, and at least this number.
+fn count_each<E: EndianParse, P: Relocation>(
+    count: u64,
+    relocations: ParsingIterator<'_, E, P>,
+) -> u64
+    ensures { result ≡ named_count count (all_parts P.fields (items_left P.reads relocations.entry)) }
 {
     let mut count = count;
-    for rel in rels {
-        count = count.max(rel.r_sym as u64 + 1);
+    for relocation in relocations {
+        count = count.max(relocation.fields().r_sym as u64 + 1);
     }
     count
 }
 
-// The same of relocations with addends.
-fn count_relas<E: EndianParse>(count: u64, relas: RelaIterator<'_, E>) -> u64
-    ensures { result ≡ named_count count (map rela_parts (relas_left relas.entry)) }
+// How many symbols there are at least, since relocations name them.
+fn count_named<E: EndianParse, R: Reader<E>>(
+    file: &R,
+    entries: &DynamicTable<'_, E>,
+) -> Result<u64, DynamicError>
+    ensures { result
+        ≡ count_named (loaded (R.file file.now) (R.ranges file.now)) (entries_in (table_view entries.now)) }
 {
-    let mut count = count;
-    for rela in relas {
-        count = count.max(rela.r_sym as u64 + 1);
+    let mut count = 0;
+    if let Some(rels) = dynamic_view::rels(file, entries)? {
+        count = count_each(count, rels);
     }
-    count
-}
-
-// The same of a list.
-fn count_list<E: EndianParse>(count: u64, list: Option<PltRelocations<'_, E>>) -> u64
-    ensures { result ≡ named_count count (list_of (option_map plt_left list.entry)) }
-{
-    match list {
-        Some(PltRelocations::Rel(rels)) => count_rels(count, rels),
-        Some(PltRelocations::Rela(relas)) => count_relas(count, relas),
-        None => count,
+    if let Some(relas) = dynamic_view::relas(file, entries)? {
+        count = count_each(count, relas);
     }
-}
-
-// How many symbols there are at least if relocations name these.
-fn count_named<E: EndianParse>(relocations: RelocationLists<'_, E>) -> u64
-    ensures { result ≡ count_named (relocations_view relocations.entry) }
-{
-    let count = count_list(0, relocations.rels);
-    let count = count_list(count, relocations.relas);
-    count_list(count, relocations.plt)
+    match dynamic_view::plt_relocations(file, entries)? {
+        Some(PltRelocations::Rel(rels)) => Ok(count_each(count, rels)),
+        Some(PltRelocations::Rela(relas)) => Ok(count_each(count, relas)),
+        None => Ok(count),
+    }
 }
 
 // ---- symbols
-
-// The bytes of this many records of a size at an address.
-fn sized_bytes<'f, E: EndianParse, R: Reader<E>>(
-    file: &'f R,
-    address: u64,
-    count: u64,
-    size: u64,
-) -> Result<&'f [u8], DynamicError>
-    ensures { ok_map (λ bytes. bytes.now) result
-        ≡ sized_bytes (loaded (R.file file.now) (R.ranges file.now)) address count size }
-{
-    match count.checked_mul(size) {
-        Some(bytes) => dynamic_view::bytes_of(file, address, bytes),
-        None => Err(DynamicError::NotLoaded(address)),
-    }
-}
 
 // This many symbols.
 fn symbols_at<'f, E: EndianParse, R: Reader<E>>(
@@ -181,29 +105,14 @@ fn symbols_at<'f, E: EndianParse, R: Reader<E>>(
         ≡ symbols_at (loaded (R.file file.now) (R.ranges file.now)) (entries_in (table_view entries.now)) count }
 {
     let address = dynamic_view::required(entries, abi::DT_SYMTAB)?;
-    let size = Symbol::size_for(file.class()) as u64;
-    let bytes = sized_bytes(file, address, count, size)?;
+    let Some(size) = count.checked_mul(Symbol::size_for(file.class()) as u64) else {
+        return Err(DynamicError::NotLoaded(address));
+    };
+    let bytes = dynamic_view::bytes_of(file, address, size)?;
     Ok(SymbolTable::new(file.endianness(), file.class(), bytes))
 }
 
-// These symbols, or more if there are more.
-fn symbols_up_to<'f, E: EndianParse, R: Reader<E>>(
-    file: &'f R,
-    entries: &DynamicTable<'_, E>,
-    counted: SymbolTable<'f, E>,
-    count: u64,
-) -> Result<SymbolTable<'f, E>, DynamicError>
-    ensures { ok_map table_view result ≡ symbols_up_to (loaded (R.file file.now) (R.ranges file.now))
-        (entries_in (table_view entries.now)) (table_view counted.entry) count }
-{
-    if count <= counted.len() as u64 {
-        Ok(counted)
-    } else {
-        symbols_at(file, entries, count)
-    }
-}
-
-// The symbols of a file.
+// Those that are counted, and at least as many as relocations name.
 fn symbols<'f, E: EndianParse, R: Reader<E>>(
     file: &'f R,
     entries: &DynamicTable<'_, E>,
@@ -212,11 +121,15 @@ fn symbols<'f, E: EndianParse, R: Reader<E>>(
         ≡ symbols (loaded (R.file file.now) (R.ranges file.now)) (entries_in (table_view entries.now)) }
 {
     let counted = dynamic_view::symbols(file, entries)?;
-    let named = relocations(file, entries)?;
-    symbols_up_to(file, entries, counted, count_named(named))
+    let count = count_named(file, entries)?;
+    if count <= counted.len() as u64 {
+        Ok(counted)
+    } else {
+        symbols_at(file, entries, count)
+    }
 }
 
-// The symbols of a file with the strings that their names lie in.
+/// Returns the symbols with the strings that their names lie in.
 pub(crate) fn symbols_with_strings<'f, E: EndianParse, R: Reader<E>>(
     file: &'f R,
     entries: &DynamicTable<'_, E>,
@@ -231,23 +144,7 @@ pub(crate) fn symbols_with_strings<'f, E: EndianParse, R: Reader<E>>(
 
 // ---- versions
 
-// The versions whose indexes are at an address.
-fn versions_at<'f, E: EndianParse, R: Reader<E>>(
-    file: &'f R,
-    entries: &DynamicTable<'_, E>,
-    address: u64,
-) -> Result<SymbolVersionTable<'f, E>, DynamicError>
-    ensures { ok_map versions_view result
-        ≡ versions_at (loaded (R.file file.now) (R.ranges file.now)) (entries_in (table_view entries.now)) address }
-{
-    let bytes = dynamic_view::bytes_from(file, address)?;
-    let needs = dynamic_view::version_needs(file, entries)?;
-    let definitions = dynamic_view::version_definitions(file, entries)?;
-    let indexes = VersionIndexTable::new(file.endianness(), file.class(), bytes);
-    Ok(SymbolVersionTable::new(indexes, needs, definitions))
-}
-
-// The versions of the symbols, if the file has version indexes.
+/// Returns the versions of the symbols, if the file has version indexes.
 pub(crate) fn versions<'f, E: EndianParse, R: Reader<E>>(
     file: &'f R,
     entries: &DynamicTable<'_, E>,
@@ -256,23 +153,19 @@ pub(crate) fn versions<'f, E: EndianParse, R: Reader<E>>(
         ≡ versions (loaded (R.file file.now) (R.ranges file.now)) (entries_in (table_view entries.now)) }
 {
     match dynamic_view::value(entries, abi::DT_VERSYM) {
-        Some(address) => versions_at(file, entries, address).map(Some),
+        Some(address) => {
+            let bytes = dynamic_view::bytes_from(file, address)?;
+            let indexes = VersionIndexTable::new(file.endianness(), file.class(), bytes);
+            dynamic_view::versions_of(file, entries, indexes).map(Some)
+        }
         None => Ok(None),
     }
 }
 
 // ---- the hash section
 
-// The size of a GNU hash section.
-fn gnu_size<E: EndianParse>(class: Class, table: &GnuHashTable<'_, E>) -> u64
-    ensures { result ≡ gnu_size class (gnu_view table.now) }
-{
-    16 + table.hdr.nbloom as u64 * address_size(class)
-        + 4 * table.hdr.nbucket as u64
-        + table.chains().bytes().len() as u64
-}
-
-// The bytes of the GNU hash section with this table.
+// The bytes of the GNU hash section with this table: the header, the bloom words, the buckets, and the chain words of its
+// symbols.
 fn gnu_bytes<'f, E: EndianParse, R: Reader<E>>(
     file: &'f R,
     entries: &DynamicTable<'_, E>,
@@ -282,66 +175,29 @@ fn gnu_bytes<'f, E: EndianParse, R: Reader<E>>(
         (entries_in (table_view entries.now)) (gnu_view table.now) }
 {
     let address = dynamic_view::required(entries, abi::DT_GNU_HASH)?;
-    dynamic_view::bytes_of(file, address, gnu_size(file.class(), table))
+    let size = 16
+        + table.hdr.nbloom as u64 * address_size(file.class())
+        + 4 * table.hdr.nbucket as u64
+        + table.chains().bytes().len() as u64;
+    dynamic_view::bytes_of(file, address, size)
 }
 
-// A hash section, by its kind and its bytes.
-type Section<'f> = (HashKind, &'f [u8]);
-
-// The SysV hash section at an address.
-fn sysv_section<'f, E: EndianParse, R: Reader<E>>(
-    file: &'f R,
-    address: u64,
-) -> Result<Section<'f>, DynamicError>
-    ensures { ok_map section_view result ≡ sysv_at (loaded (R.file file.now) (R.ranges file.now)) address }
-{
-    let bytes = dynamic_view::bytes_from(file, address)?;
-    Ok((HashKind::Sysv, bytes))
-}
-
-// The section of a file with this GNU table, or if there is none the SysV section.
-fn hash_by<'f, E: EndianParse, R: Reader<E>>(
+/// Returns the section in which symbols are looked up, if there is one.
+pub(crate) fn hash_section<'f, E: EndianParse, R: Reader<E>>(
     file: &'f R,
     entries: &DynamicTable<'_, E>,
-    gnu: Option<GnuHashTable<'_, E>>,
-) -> Result<Option<Section<'f>>, DynamicError>
-    ensures { ok_map (option_map section_view) result ≡ hash_by (loaded (R.file file.now) (R.ranges file.now))
-        (entries_in (table_view entries.now)) (option_map gnu_view gnu.entry) }
+) -> Result<Option<HashBytes<'f>>, DynamicError>
+    ensures { ok_map (option_map section_view) result
+        ≡ hash_section (loaded (R.file file.now) (R.ranges file.now)) (entries_in (table_view entries.now)) }
 {
-    if let Some(table) = gnu {
+    if let Some(table) = dynamic_view::gnu_hash(file, entries)? {
         let bytes = gnu_bytes(file, entries, &table)?;
         return Ok(Some((HashKind::Gnu, bytes)));
     }
     match dynamic_view::value(entries, abi::DT_HASH) {
-        Some(address) => sysv_section(file, address).map(Some),
-        None => Ok(None),
-    }
-}
-
-// The section in which the symbols of a file are looked up, if there is one.
-fn hash_section<'f, E: EndianParse, R: Reader<E>>(
-    file: &'f R,
-    entries: &DynamicTable<'_, E>,
-) -> Result<Option<Section<'f>>, DynamicError>
-    ensures { ok_map (option_map section_view) result
-        ≡ hash_section (loaded (R.file file.now) (R.ranges file.now)) (entries_in (table_view entries.now)) }
-{
-    let gnu = dynamic_view::gnu_hash(file, entries)?;
-    hash_by(file, entries, gnu)
-}
-
-// The section with what it is checked over, if there is one.
-pub(crate) fn hash_parts<'f, E: EndianParse, R: Reader<E>>(
-    file: &'f R,
-    entries: &DynamicTable<'_, E>,
-) -> Result<Option<HashParts<'f, E>>, DynamicError>
-    ensures { ok_map (option_map hash_view) result
-        ≡ hash_parts (loaded (R.file file.now) (R.ranges file.now)) (entries_in (table_view entries.now)) }
-{
-    match hash_section(file, entries)? {
-        Some((kind, bytes)) => {
-            let symbols = symbols_with_strings(file, entries)?;
-            Ok(Some((kind, (bytes, symbols))))
+        Some(address) => {
+            let bytes = dynamic_view::bytes_from(file, address)?;
+            Ok(Some((HashKind::Sysv, bytes)))
         }
         None => Ok(None),
     }

@@ -1,41 +1,29 @@
 //! What is looked up and bound of a file: its symbols for dynamic linking, the object that it is, and the uses that its
 //! relocations make of the symbols. A file that declares section headers is read by these. One that declares none is
-//! read through its segments, as the dynamic linker reads each file.
+//! read by its dynamic entries, as the dynamic linker reads each file.
 ghost use Rattle.std.specs.Prelude.{◌≡◌};
 ghost use Rattle.std.specs.Option.{option_map};
 ghost use Rattle.elf.specs.Answers.{symbols_view};
 ghost use Rattle.elf.specs.Parts.{loaded};
-ghost use Rattle.elf_dynamic.specs.dynamic_view.Entries.{entries_in};
-ghost use Rattle.elf_linking.specs.BySegments.{entries_of};
 ghost use Rattle.elf_linking.specs.DynamicFile.{GivesDynamic, dynamic_symbols, dynamic_uses, dynamic_versions};
-ghost use Rattle.elf_linking.specs.DynamicFile.{hash_parts};
+ghost use Rattle.elf_linking.specs.DynamicFile.{hash_parts, hash_section, section_hash};
 ghost use Rattle.elf_linking.specs.VersionedView.{versioned_view};
-ghost use Rattle.elf_linking.specs.inner.BySegments.{hash_view};
+ghost use Rattle.elf_linking.specs.inner.BySegments.{hash_view, section_view};
 ghost use Rattle.elf_parts.specs.gnu_symver.Table.{versions_view};
 ghost use Rattle.elf_records.specs.Number.{ok_map};
-ghost use Rattle.elf_records.specs.Table.{table_view};
 
 use crate::bindings::uses::{SymbolUses, UsesError, add_uses};
-use crate::by_segments::{add_all, relocations, symbols_with_strings};
-use crate::resolve::{HashParts, ObjectFault, checked_in};
-use crate::{VersionedObject, by_sections, by_segments};
-use elf::dynamic::DynamicTable;
+use crate::by_segments::{add_relocations, symbols_with_strings};
+use crate::resolve::{HashBytes, HashParts, ObjectFault, checked_in};
+use crate::{VersionedObject, by_segments};
 use elf::endian::EndianParse;
 use elf::gnu_symver::SymbolVersionTable;
-use elf::reader::{Reader, dynamic_symbol_table, symbol_version_table};
+use elf::reader::{Reader, dynamic_symbol_table, section_data, symbol_version_table};
 use elf::string_table::StringTable;
 use elf::symbol::SymbolTable;
-use elf_dynamic::dynamic_view::{DynamicError, dynamic_table};
-
-// The dynamic entries of a file, by its segments.
-fn entries<'f, E: EndianParse, R: Reader<E>>(
-    file: &'f R,
-) -> Result<Option<DynamicTable<'f, E>>, DynamicError>
-    ensures { ok_map (option_map (λ table. entries_in (table_view table))) result
-        ≡ entries_of (loaded (R.file file.now) (R.ranges file.now)) }
-{
-    dynamic_table(file)
-}
+use elf::{ReadError, abi};
+use elf_dynamic::linked::{LinkedBy, linked_by};
+use elf_hash_check::hashcheck::HashKind;
 
 /// Returns the symbols for dynamic linking with their strings, or `None` if the file has none. If it declares no section
 /// headers, these are as many symbols as its hash section counts, and at least as many as its relocations name.
@@ -55,34 +43,67 @@ pub fn dynamic_symbols<'f, E: EndianParse, R: Reader<E>>(
 ) -> Result<Option<(SymbolTable<'f, E>, StringTable<'f>)>, ObjectFault>
     ensures { ok_map (option_map symbols_view) result ≡ dynamic_symbols (loaded (R.file file.now) (R.ranges file.now)) }
 {
-    if file.declares_sections() {
-        let symbols = dynamic_symbol_table(file)?;
-        return Ok(symbols);
-    }
-    match entries(file)? {
-        Some(entries) => {
+    match linked_by(file)? {
+        LinkedBy::Sections => {
+            let symbols = dynamic_symbol_table(file)?;
+            Ok(symbols)
+        }
+        LinkedBy::Entries(entries) => {
             let symbols = symbols_with_strings(file, &entries)?;
             Ok(Some(symbols))
         }
-        None => Ok(None),
+        LinkedBy::Nothing => Ok(None),
     }
 }
 
-// The hash section of a file with what it is checked over, if it has one.
+// The first section of type SHT_GNU_HASH, or if there is none the first of type SHT_HASH.
+fn section_hash<'f, E: EndianParse, R: Reader<E>>(
+    file: &'f R,
+) -> Result<Option<HashBytes<'f>>, ReadError>
+    ensures { ok_map (option_map section_view) result ≡ section_hash (loaded (R.file file.now) (R.ranges file.now)) }
+{
+    if let Some(section) = file.first_section_of(abi::SHT_GNU_HASH) {
+        let (bytes, _) = section_data(file, &section)?;
+        return Ok(Some((HashKind::Gnu, bytes)));
+    }
+    if let Some(section) = file.first_section_of(abi::SHT_HASH) {
+        let (bytes, _) = section_data(file, &section)?;
+        return Ok(Some((HashKind::Sysv, bytes)));
+    }
+    Ok(None)
+}
+
+// The hash section of a file, if it has one.
+fn hash_section<'f, E: EndianParse, R: Reader<E>>(
+    file: &'f R,
+) -> Result<Option<HashBytes<'f>>, ObjectFault>
+    ensures { ok_map (option_map section_view) result ≡ hash_section (loaded (R.file file.now) (R.ranges file.now)) }
+{
+    match linked_by(file)? {
+        LinkedBy::Sections => {
+            let section = section_hash(file)?;
+            Ok(section)
+        }
+        LinkedBy::Entries(entries) => {
+            let section = by_segments::hash_section(file, &entries)?;
+            Ok(section)
+        }
+        LinkedBy::Nothing => Ok(None),
+    }
+}
+
+// The same with what it is checked over.
 pub(crate) fn hash_parts<'f, E: EndianParse, R: Reader<E>>(
     file: &'f R,
 ) -> Result<Option<HashParts<'f, E>>, ObjectFault>
     ensures { ok_map (option_map hash_view) result ≡ hash_parts (loaded (R.file file.now) (R.ranges file.now)) }
 {
-    if file.declares_sections() {
-        return by_sections::hash_parts(file);
-    }
-    match entries(file)? {
-        Some(entries) => {
-            let parts = by_segments::hash_parts(file, &entries)?;
-            Ok(parts)
-        }
-        None => Ok(None),
+    let Some((kind, bytes)) = hash_section(file)? else {
+        return Ok(None);
+    };
+    match dynamic_symbols(file)? {
+        Some(symbols) => Ok(Some((kind, (bytes, symbols)))),
+        None => Err(ObjectFault::NoSymbols),
     }
 }
 
@@ -92,16 +113,16 @@ pub(crate) fn versions<'f, E: EndianParse, R: Reader<E>>(
 ) -> Result<Option<SymbolVersionTable<'f, E>>, ObjectFault>
     ensures { ok_map (option_map versions_view) result ≡ dynamic_versions (loaded (R.file file.now) (R.ranges file.now)) }
 {
-    if file.declares_sections() {
-        let versions = symbol_version_table(file)?;
-        return Ok(versions);
-    }
-    match entries(file)? {
-        Some(entries) => {
+    match linked_by(file)? {
+        LinkedBy::Sections => {
+            let versions = symbol_version_table(file)?;
+            Ok(versions)
+        }
+        LinkedBy::Entries(entries) => {
             let versions = by_segments::versions(file, &entries)?;
             Ok(versions)
         }
-        None => Ok(None),
+        LinkedBy::Nothing => Ok(None),
     }
 }
 
@@ -145,15 +166,12 @@ pub fn add_dynamic_uses<E: EndianParse, R: Reader<E>>(
     ensures { ok_map (λ _. uses.new) result
         ≡ dynamic_uses machine (loaded (R.file file.now) (R.ranges file.now)) uses.old }
 {
-    if file.declares_sections() {
-        return add_uses(machine, file, uses);
-    }
-    match entries(file)? {
-        Some(entries) => {
-            let relocations = relocations(file, &entries)?;
-            add_all(machine, relocations, uses);
+    match linked_by(file)? {
+        LinkedBy::Sections => add_uses(machine, file, uses),
+        LinkedBy::Entries(entries) => {
+            add_relocations(machine, file, &entries, uses)?;
             Ok(())
         }
-        None => Ok(()),
+        LinkedBy::Nothing => Ok(()),
     }
 }

@@ -16,7 +16,7 @@ use elf::parse::ParseError;
 use elf_dynamic::dynamic_view::DynamicError;
 use elf_hash_check::hashcheck::HashFault;
 pub use elf_hash_check::hashcheck::{AnyChecked, HashSection};
-pub(crate) use objects::{HashParts, SectionParts, checked_in};
+pub(crate) use objects::{HashBytes, HashParts, checked_in};
 pub use objects::{object_table, resolve, section_table};
 use thiserror::Error;
 

@@ -1,6 +1,6 @@
 -- The tags of build attributes and their values, by the name of the vendor (Addenda to, and Errata in, the ABI for the Arm
 -- Architecture, chapter "Build Attributes"; RISC-V ELF psABI, section "Attributes"; GNU as, section "Object Attributes").
-use Rattle.std.specs.Prelude.{ℕ, ◌==◌, ◌||◌, ◌&&◌, nat_lt, nat_eq, if◌then◌else◌, List, [], codes, Option}
+use Rattle.std.specs.Prelude.{ℕ, ◌==◌, ◌||◌, ◌&&◌, nat_eq, if◌then◌else◌, List, [], codes, Option}
 use Rattle.std.specs.Str.{bytes_eq}
 use Rattle.elf_abi.specs.Names.{Row, name_of}
 use Rattle.elf_abi.specs.declared.abi.TheConstants as machine
@@ -37,10 +37,11 @@ attribute_tags vendor m =
 abbrev pub attribute_tag_name : List ℕ → ℕ → ℕ → Option (List ℕ)
 attribute_tag_name vendor m tag = name_of nat_eq (attribute_tags vendor m) tag
 
--- ---- values of Arm: of the processor, of types and rounding, of enumerations and goals, and of later tags
+-- ---- values
 
-unfoldable pub arm_processor : ℕ → List (Row ℕ)
-arm_processor tag =
+-- of Arm, by the tag
+unfoldable pub arm_values : ℕ → List (Row ℕ)
+arm_values tag =
     if tag == 6 then rows names.ARM_ARCHITECTURES.now
     else if tag == 7 then rows names.ARM_PROFILES.now
     else if tag == 8 then rows names.ARM_ISA.now
@@ -48,11 +49,7 @@ arm_processor tag =
     else if tag == 10 then rows names.ARM_FP.now
     else if tag == 11 then rows names.ARM_WMMX.now
     else if tag == 12 then rows names.ARM_SIMD.now
-    else []
-
-unfoldable pub arm_types : ℕ → List (Row ℕ)
-arm_types tag =
-    if tag == 13 then rows names.ARM_CONFIGURATIONS.now
+    else if tag == 13 then rows names.ARM_CONFIGURATIONS.now
     else if tag == 14 then rows names.ARM_R9.now
     else if tag == 15 then rows names.ARM_RW_DATA.now
     else if tag == 16 then rows names.ARM_RO_DATA.now
@@ -60,11 +57,7 @@ arm_types tag =
     else if tag == 18 then rows names.ARM_WCHAR.now
     else if tag == 19 || tag == 21 || tag == 22 then rows names.ARM_NEEDED.now
     else if tag == 20 then rows names.ARM_DENORMAL.now
-    else []
-
-unfoldable pub arm_goals : ℕ → List (Row ℕ)
-arm_goals tag =
-    if tag == 23 then rows names.ARM_NUMBER_MODEL.now
+    else if tag == 23 then rows names.ARM_NUMBER_MODEL.now
     else if tag == 24 then rows names.ARM_ALIGN_NEEDED.now
     else if tag == 25 then rows names.ARM_ALIGN_PRESERVED.now
     else if tag == 26 then rows names.ARM_ENUM_SIZE.now
@@ -73,11 +66,7 @@ arm_goals tag =
     else if tag == 29 then rows names.ARM_WMMX_ARGUMENTS.now
     else if tag == 30 then rows names.ARM_GOALS.now
     else if tag == 31 then rows names.ARM_FP_GOALS.now
-    else []
-
-unfoldable pub arm_later : ℕ → List (Row ℕ)
-arm_later tag =
-    if tag == 34 then rows names.ARM_UNALIGNED.now
+    else if tag == 34 then rows names.ARM_UNALIGNED.now
     else if tag == 36 || tag == 42 || tag == 66 || tag == 70 then rows names.ARM_ALLOWED.now
     else if tag == 38 then rows names.ARM_HALF.now
     else if tag == 44 then rows names.ARM_DIVISION.now
@@ -91,15 +80,9 @@ arm_later tag =
     else if tag == 76 then rows names.ARM_PACRET_USE.now
     else []
 
--- ---- values
-
 unfoldable pub attribute_values : List ℕ → ℕ → List (Row ℕ)
 attribute_values vendor tag =
-    if bytes_eq vendor (codes "aeabi") then
-    (if nat_lt tag 13 then arm_processor tag
-    else if nat_lt tag 23 then arm_types tag
-    else if nat_lt tag 34 then arm_goals tag
-    else arm_later tag)
+    if bytes_eq vendor (codes "aeabi") then arm_values tag
     else if bytes_eq vendor (codes "riscv") && tag == 6 then rows names.RISCV_ACCESS.now
     else []
 

@@ -1,5 +1,5 @@
 -- The types of relocations, by machine.
-use Rattle.std.specs.Prelude.{ℕ, ◌==◌, if◌then◌else◌, List, [], Option, nat_eq}
+use Rattle.std.specs.Prelude.{ℕ, ◌==◌, ◌||◌, if◌then◌else◌, List, [], Option, nat_eq}
 use Rattle.elf_abi.specs.Names.{Row, name_of}
 use Rattle.elf_abi.specs.declared.abi.TheConstants as machine
 use Rattle.elf_names.specs.Table.{rows}
@@ -31,33 +31,30 @@ use Rattle.elf_names.specs.declared.relocations.x86_64.TheConstants as x86_64
 -- the types of relocations with their names; none of a machine whose types are not known here
 unfoldable pub relocation_types : ℕ → List (Row ℕ)
 relocation_types e_machine =
-    if e_machine == machine.EM_X86_64 then rows x86_64.TYPES
-    else if e_machine == machine.EM_386 then rows i386.TYPES
-    else if e_machine == machine.EM_AARCH64 then rows aarch64.TYPES
-    else if e_machine == machine.EM_ARM then rows arm.TYPES
-    else if e_machine == machine.EM_MIPS then rows mips.TYPES
-    else if e_machine == machine.EM_PPC then rows ppc.TYPES
-    else if e_machine == machine.EM_PPC64 then rows ppc64.TYPES
-    else if e_machine == machine.EM_RISCV then rows riscv.TYPES
-    else if e_machine == machine.EM_S390 then rows s390.TYPES
-    else if e_machine == machine.EM_LOONGARCH then rows loongarch.TYPES
-    else if e_machine == machine.EM_68K then rows m68k.TYPES
-    else if e_machine == machine.EM_PARISC then rows parisc.TYPES
-    else if e_machine == machine.EM_SH then rows sh.TYPES
-    else if e_machine == machine.EM_SPARC then rows sparc.TYPES
-    else if e_machine == machine.EM_SPARC32PLUS then rows sparc.TYPES
-    else if e_machine == machine.EM_SPARCV9 then rows sparc.TYPES
-    else if e_machine == machine.EM_ALPHA then rows alpha.TYPES
-    else if e_machine == linux.GNU_ALPHA then rows alpha.TYPES
-    else if e_machine == machine.EM_IA_64 then rows ia_64.TYPES
-    else if e_machine == machine.EM_CSKY then rows csky.TYPES
-    else if e_machine == machine.EM_ARC_COMPACT then rows arc.TYPES
-    else if e_machine == machine.EM_ARC_COMPACT2 then rows arc.TYPES
-    else if e_machine == machine.EM_OPENRISC then rows openrisc.TYPES
-    else if e_machine == machine.EM_MICROBLAZE then rows microblaze.TYPES
-    else if e_machine == machine.EM_ALTERA_NIOS2 then rows nios2.TYPES
-    else if e_machine == machine.EM_BPF then rows bpf.TYPES
-    else if e_machine == machine.EM_AMDGPU then rows amdgpu.TYPES
+    if e_machine == machine.EM_X86_64 then rows x86_64.TYPES.now
+    else if e_machine == machine.EM_386 then rows i386.TYPES.now
+    else if e_machine == machine.EM_AARCH64 then rows aarch64.TYPES.now
+    else if e_machine == machine.EM_ARM then rows arm.TYPES.now
+    else if e_machine == machine.EM_MIPS then rows mips.TYPES.now
+    else if e_machine == machine.EM_PPC then rows ppc.TYPES.now
+    else if e_machine == machine.EM_PPC64 then rows ppc64.TYPES.now
+    else if e_machine == machine.EM_RISCV then rows riscv.TYPES.now
+    else if e_machine == machine.EM_S390 then rows s390.TYPES.now
+    else if e_machine == machine.EM_LOONGARCH then rows loongarch.TYPES.now
+    else if e_machine == machine.EM_68K then rows m68k.TYPES.now
+    else if e_machine == machine.EM_PARISC then rows parisc.TYPES.now
+    else if e_machine == machine.EM_SH then rows sh.TYPES.now
+    else if e_machine == machine.EM_SPARC || e_machine == machine.EM_SPARC32PLUS || e_machine == machine.EM_SPARCV9
+    then rows sparc.TYPES.now
+    else if e_machine == machine.EM_ALPHA || e_machine == linux.GNU_ALPHA then rows alpha.TYPES.now
+    else if e_machine == machine.EM_IA_64 then rows ia_64.TYPES.now
+    else if e_machine == machine.EM_CSKY then rows csky.TYPES.now
+    else if e_machine == machine.EM_ARC_COMPACT || e_machine == machine.EM_ARC_COMPACT2 then rows arc.TYPES.now
+    else if e_machine == machine.EM_OPENRISC then rows openrisc.TYPES.now
+    else if e_machine == machine.EM_MICROBLAZE then rows microblaze.TYPES.now
+    else if e_machine == machine.EM_ALTERA_NIOS2 then rows nios2.TYPES.now
+    else if e_machine == machine.EM_BPF then rows bpf.TYPES.now
+    else if e_machine == machine.EM_AMDGPU then rows amdgpu.TYPES.now
     else []
 
 abbrev pub relocation_type_name : ℕ → ℕ → Option (List ℕ)

@@ -2,26 +2,19 @@
 //! readelf.
 ghost use Rattle.std.specs.Prelude.{◌≡◌};
 ghost use Rattle.std.specs.Option.{option_copied};
-ghost use Rattle.elf_names.specs.Attributes.{arm_goals, arm_later, arm_processor, arm_types, attribute_tag_name};
-ghost use Rattle.elf_names.specs.Attributes.{attribute_tags, attribute_value_name, attribute_values, gnu_tags};
-ghost use Rattle.elf_names.specs.Attributes.{scope_name, scopes};
+ghost use Rattle.elf_names.specs.Attributes.{arm_values, attribute_tag_name, attribute_tags, attribute_value_name};
+ghost use Rattle.elf_names.specs.Attributes.{attribute_values, gnu_tags, scope_name};
 ghost use Rattle.elf_names.specs.Table.{rows_of};
 
 use crate::table::{Names, name_in};
 use elf_abi::abi;
 
 /// Returns the name of a tag that says what attributes are of.
+#[tactic(auto, unfolding(crate::specs::Attributes::scopes))]
 pub fn scope_name(tag: u64) -> Option<&'static str>
     ensures { option_copied result ≡ scope_name tag }
 {
-    name_in(scopes(), tag)
-}
-
-#[tactic(auto, unfolding(crate::specs::Attributes::scopes))]
-fn scopes() -> Names<u64>
-    ensures { rows_of result.now ≡ scopes }
-{
-    SCOPES
+    name_in(SCOPES, tag)
 }
 
 /// Returns the name of a tag of this vendor. Tags of GNU have names by the machine (`e_machine`).
@@ -74,15 +67,7 @@ pub fn attribute_values(vendor: &[u8], tag: u64) -> Names<u64>
     ensures { rows_of result.now ≡ attribute_values vendor.now tag }
 {
     if vendor == b"aeabi".as_slice() {
-        if tag < 13 {
-            arm_processor(tag)
-        } else if tag < 23 {
-            arm_types(tag)
-        } else if tag < 34 {
-            arm_goals(tag)
-        } else {
-            arm_later(tag)
-        }
+        arm_values(tag)
     } else if vendor == b"riscv".as_slice() && tag == 6 {
         RISCV_ACCESS
     } else {
@@ -90,9 +75,9 @@ pub fn attribute_values(vendor: &[u8], tag: u64) -> Names<u64>
     }
 }
 
-#[tactic(auto, unfolding(crate::specs::Attributes::arm_processor))]
-fn arm_processor(tag: u64) -> Names<u64>
-    ensures { rows_of result.now ≡ arm_processor tag }
+#[tactic(auto, unfolding(crate::specs::Attributes::arm_values))]
+fn arm_values(tag: u64) -> Names<u64>
+    ensures { rows_of result.now ≡ arm_values tag }
 {
     match tag {
         6 => ARM_ARCHITECTURES,
@@ -102,15 +87,6 @@ fn arm_processor(tag: u64) -> Names<u64>
         10 => ARM_FP,
         11 => ARM_WMMX,
         12 => ARM_SIMD,
-        _ => &[],
-    }
-}
-
-#[tactic(auto, unfolding(crate::specs::Attributes::arm_types))]
-fn arm_types(tag: u64) -> Names<u64>
-    ensures { rows_of result.now ≡ arm_types tag }
-{
-    match tag {
         13 => ARM_CONFIGURATIONS,
         14 => ARM_R9,
         15 => ARM_RW_DATA,
@@ -119,15 +95,6 @@ fn arm_types(tag: u64) -> Names<u64>
         18 => ARM_WCHAR,
         19 | 21 | 22 => ARM_NEEDED,
         20 => ARM_DENORMAL,
-        _ => &[],
-    }
-}
-
-#[tactic(auto, unfolding(crate::specs::Attributes::arm_goals))]
-fn arm_goals(tag: u64) -> Names<u64>
-    ensures { rows_of result.now ≡ arm_goals tag }
-{
-    match tag {
         23 => ARM_NUMBER_MODEL,
         24 => ARM_ALIGN_NEEDED,
         25 => ARM_ALIGN_PRESERVED,
@@ -137,15 +104,6 @@ fn arm_goals(tag: u64) -> Names<u64>
         29 => ARM_WMMX_ARGUMENTS,
         30 => ARM_GOALS,
         31 => ARM_FP_GOALS,
-        _ => &[],
-    }
-}
-
-#[tactic(auto, unfolding(crate::specs::Attributes::arm_later))]
-fn arm_later(tag: u64) -> Names<u64>
-    ensures { rows_of result.now ≡ arm_later tag }
-{
-    match tag {
         34 => ARM_UNALIGNED,
         36 | 42 | 66 | 70 => ARM_ALLOWED,
         38 => ARM_HALF,

@@ -1,4 +1,4 @@
-//! The types of relocations, by machine. Each machine has a table of its own.
+//! The types of relocations, by machine. Each machine has a module for its table.
 ghost use Rattle.std.specs.Prelude.{◌≡◌};
 ghost use Rattle.std.specs.Option.{option_copied};
 ghost use Rattle.elf_names.specs.Relocations.{relocation_type_name, relocation_types};
@@ -39,8 +39,6 @@ pub fn relocation_type_name(e_machine: u16, r_type: u32) -> Option<&'static str>
     name_in(relocation_types(e_machine), r_type)
 }
 
-// Each table is given by a function of its own: one function that names them all takes minutes to prove.
-
 /// The names of the types of relocations in files of this `e_machine`. There are none for a machine whose types are not
 /// known here.
 #[tactic(auto, unfolding(crate::specs::Relocations::relocation_types))]
@@ -48,33 +46,29 @@ pub fn relocation_types(e_machine: u16) -> Names<u32>
     ensures { rows_of result.now ≡ relocation_types e_machine }
 {
     match e_machine {
-        abi::EM_X86_64 => x86_64::types(),
-        abi::EM_386 => i386::types(),
-        abi::EM_AARCH64 => aarch64::types(),
-        abi::EM_ARM => arm::types(),
-        abi::EM_MIPS => mips::types(),
-        abi::EM_PPC => ppc::types(),
-        abi::EM_PPC64 => ppc64::types(),
-        abi::EM_RISCV => riscv::types(),
-        abi::EM_S390 => s390::types(),
-        abi::EM_LOONGARCH => loongarch::types(),
-        abi::EM_68K => m68k::types(),
-        abi::EM_PARISC => parisc::types(),
-        abi::EM_SH => sh::types(),
-        abi::EM_SPARC => sparc::types(),
-        abi::EM_SPARC32PLUS => sparc::types(),
-        abi::EM_SPARCV9 => sparc::types(),
-        abi::EM_ALPHA => alpha::types(),
-        GNU_ALPHA => alpha::types(),
-        abi::EM_IA_64 => ia_64::types(),
-        abi::EM_CSKY => csky::types(),
-        abi::EM_ARC_COMPACT => arc::types(),
-        abi::EM_ARC_COMPACT2 => arc::types(),
-        abi::EM_OPENRISC => openrisc::types(),
-        abi::EM_MICROBLAZE => microblaze::types(),
-        abi::EM_ALTERA_NIOS2 => nios2::types(),
-        abi::EM_BPF => bpf::types(),
-        abi::EM_AMDGPU => amdgpu::types(),
+        abi::EM_X86_64 => x86_64::TYPES,
+        abi::EM_386 => i386::TYPES,
+        abi::EM_AARCH64 => aarch64::TYPES,
+        abi::EM_ARM => arm::TYPES,
+        abi::EM_MIPS => mips::TYPES,
+        abi::EM_PPC => ppc::TYPES,
+        abi::EM_PPC64 => ppc64::TYPES,
+        abi::EM_RISCV => riscv::TYPES,
+        abi::EM_S390 => s390::TYPES,
+        abi::EM_LOONGARCH => loongarch::TYPES,
+        abi::EM_68K => m68k::TYPES,
+        abi::EM_PARISC => parisc::TYPES,
+        abi::EM_SH => sh::TYPES,
+        abi::EM_SPARC | abi::EM_SPARC32PLUS | abi::EM_SPARCV9 => sparc::TYPES,
+        abi::EM_ALPHA | GNU_ALPHA => alpha::TYPES,
+        abi::EM_IA_64 => ia_64::TYPES,
+        abi::EM_CSKY => csky::TYPES,
+        abi::EM_ARC_COMPACT | abi::EM_ARC_COMPACT2 => arc::TYPES,
+        abi::EM_OPENRISC => openrisc::TYPES,
+        abi::EM_MICROBLAZE => microblaze::TYPES,
+        abi::EM_ALTERA_NIOS2 => nios2::TYPES,
+        abi::EM_BPF => bpf::TYPES,
+        abi::EM_AMDGPU => amdgpu::TYPES,
         _ => &[],
     }
 }

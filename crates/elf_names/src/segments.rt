@@ -1,7 +1,7 @@
 //! The types of segments (gABI, chapter "Program Header").
 ghost use Rattle.std.specs.Prelude.{◌≡◌};
 ghost use Rattle.std.specs.Option.{option_copied};
-ghost use Rattle.elf_names.specs.Segments.{any_segment_types, segment_types, segment_type_name};
+ghost use Rattle.elf_names.specs.Segments.{segment_types, segment_type_name};
 ghost use Rattle.elf_names.specs.Table.{rows_of};
 
 use crate::table::{Names, name_in};
@@ -9,11 +9,12 @@ use elf_abi::{abi, to_str};
 
 /// Returns the name of a type (`p_type`): that of the machine (`e_machine`), as `PT_ARM_EXIDX`, or that of any machine, as
 /// `PT_GNU_SFRAME`; of a type that neither list has, that of `elf_abi::to_str`.
+#[tactic(auto, unfolding(crate::specs::Segments::any_segment_types))]
 pub fn segment_type_name(e_machine: u16, p_type: u32) -> Option<&'static str>
     ensures { option_copied result ≡ segment_type_name e_machine p_type }
 {
     name_in(segment_types(e_machine), p_type)
-        .or(name_in(any(), p_type))
+        .or(name_in(ANY, p_type))
         .or(to_str::p_type_to_str(p_type))
 }
 
@@ -28,13 +29,6 @@ pub const ANY: Names<u32> = &[
     (0x6ffffffa, "PT_SUNWBSS"),
     (0x6ffffffb, "PT_SUNWSTACK"),
 ];
-
-#[tactic(auto, unfolding(crate::specs::Segments::any_segment_types))]
-fn any() -> Names<u32>
-    ensures { rows_of result.now ≡ any_segment_types }
-{
-    ANY
-}
 
 /// The names of types of segments that this machine (`e_machine`) gives.
 #[tactic(auto, unfolding(crate::specs::Segments::segment_types))]

@@ -1,7 +1,7 @@
 -- How a file is hardened against attacks: by its segments (gABI, chapter "Program Header"; GNU extensions), its dynamic
 -- entries (gABI, chapter "Dynamic Section"), its symbols, and the properties of its code (Linux Extensions to gABI,
 -- section "Program Property"). What is not known is None.
-use Rattle.std.specs.Prelude.{ℕ, ℤ, pos, ◌+◌, ◌==◌, ◌||◌, ◌&&◌, not, nat_lt, bit_and, Bool, false}
+use Rattle.std.specs.Prelude.{ℕ, ℤ, pos, ◌+◌, ◌==◌, ◌||◌, ◌&&◌, not, nat_lt, bit_and, bit_or, Bool, false}
 use Rattle.std.specs.Prelude.{if◌then◌else◌, List, [], ◌∷◌, ◌++◌, codes, drop, filter, length, map}
 use Rattle.std.specs.Prelude.{Option, Some, None, Result, Ok, Err, unwrap_or}
 use Rattle.std.specs.List.{enumerate_from, find, flat_map, last_or, list_any, slice_split, starts_with}
@@ -51,22 +51,20 @@ use Rattle.nugwier_report.specs.declared.problem.Part.TheVariants.{Segment, Symb
 
 -- ---- segments
 
-abbrev pub has_type : ℕ → ProgramHeader → Bool
-has_type p_type p = p.p_type == p_type
+-- it has this type, and all of these flags
+abbrev pub is_segment : ℕ → ℕ → ProgramHeader → Bool
+is_segment p_type flags p = p.p_type == p_type && bit_and p.p_flags flags == flags
 
-abbrev pub has_bit : ℕ → ℕ → Bool
-has_bit n mask = not (bit_and n mask == 0)
+abbrev pub has_segment : ℕ → ℕ → List ProgramHeader → Bool
+has_segment p_type flags segments = list_any (is_segment p_type flags) segments
 
--- loaded to be both written and executed
-abbrev pub is_writable_code : ProgramHeader → Bool
-is_writable_code p = has_type abi.PT_LOAD p && has_bit p.p_flags abi.PF_W && has_bit p.p_flags abi.PF_X
-
-abbrev pub is_executable_stack : ProgramHeader → Bool
-is_executable_stack p = has_type abi.PT_GNU_STACK p && has_bit p.p_flags abi.PF_X
+-- how many are loaded to be both written and executed
+abbrev pub count_writable_code : List ProgramHeader → ℕ
+count_writable_code segments = length (filter (is_segment abi.PT_LOAD (bit_or abi.PF_W abi.PF_X)) segments)
 
 -- it is asked for; without PT_GNU_STACK the stack is executable
 abbrev pub has_nx_stack : List ProgramHeader → Bool
-has_nx_stack segments = list_any (has_type abi.PT_GNU_STACK) segments && not (list_any is_executable_stack segments)
+has_nx_stack segments = has_segment abi.PT_GNU_STACK 0 segments && not (has_segment abi.PT_GNU_STACK abi.PF_X segments)
 
 -- a program or a shared object, as relocatable and core files are not
 abbrev pub is_linked : ℕ → Bool
@@ -85,7 +83,7 @@ dt_debug = pos 21
 
 -- the value of this tag, which the last entry with it gives, has a bit of the mask
 abbrev pub has_flag : ℤ → ℕ → List Dyn → Bool
-has_flag tag mask entries = has_bit (unwrap_or (value_of tag entries) 0) mask
+has_flag tag mask entries = not (bit_and (unwrap_or (value_of tag entries) 0) mask == 0)
 
 -- DT_BIND_NOW, DF_BIND_NOW (8) or DF_1_NOW (1)
 abbrev pub binds_now : List Dyn → Bool
@@ -110,7 +108,7 @@ file_kind e_type segments entries =
     if e_type == abi.ET_EXEC then Some kinds.Executable
     else if e_type == abi.ET_REL then Some kinds.Relocatable
     else if e_type == abi.ET_CORE then Some kinds.Core
-    else if e_type == abi.ET_DYN then option_map (dynamic_kind (list_any (has_type abi.PT_INTERP) segments)) entries
+    else if e_type == abi.ET_DYN then option_map (dynamic_kind (has_segment abi.PT_INTERP 0 segments)) entries
     else None
 
 abbrev pub relro_by : Bool → Relro
@@ -119,7 +117,7 @@ relro_by is_bound_now = if is_bound_now then relro.Full else relro.Partial
 -- the global offset table is only read if all symbols are bound before it is protected
 abbrev pub relro_of : List ProgramHeader → Option Bool → Option Relro
 relro_of segments is_bound_now =
-    if list_any (has_type abi.PT_GNU_RELRO) segments then option_map relro_by is_bound_now else Some relro.Nothing
+    if has_segment abi.PT_GNU_RELRO 0 segments then option_map relro_by is_bound_now else Some relro.Nothing
 
 -- ---- search paths
 
@@ -224,7 +222,7 @@ of_section file one = (Section one.0, one.1.sh_addralign, content file one.1)
 
 abbrev pub property_segment : List ProgramHeader → Option (ℕ × ProgramHeader)
 property_segment segments =
-    find (λ (one : ℕ × ProgramHeader). has_type abi.PT_GNU_PROPERTY one.1) (enumerate_from 0 segments)
+    find (λ (one : ℕ × ProgramHeader). one.1.p_type == abi.PT_GNU_PROPERTY) (enumerate_from 0 segments)
 
 abbrev pub property_section : ObjectFile → Option (ℕ × SectionHeader)
 property_section file = first_named file.sections (codes ".note.gnu.property") (known_names file)
@@ -253,14 +251,11 @@ feature_in little class wanted (byte ∷ bytes) rest = elim (property_at little 
   | None ↦ None
 ]
 
--- without such a property the code has none of the features
-abbrev pub features_in : Bool → Class → ℕ → List ℕ → ℕ
-features_in little class wanted bytes = unwrap_or (feature_in little class wanted bytes bytes) 0
-
--- of bytes of notes that declare this alignment
+-- of bytes of notes that declare this alignment; without such a property the code has none of the features
 abbrev pub features_of : Bool → Class → ℕ → ℕ → List ℕ → ℕ
 features_of little class wanted align bytes =
-    features_in little class wanted (first_properties (notes_in little (note_align align) bytes))
+    let properties = first_properties (notes_in little (note_align align) bytes) in
+    unwrap_or (feature_in little class wanted properties properties) 0
 
 abbrev pub features_by : Bool → Class → Option ℕ → Option Properties → Option ℕ
 features_by little class None properties = None
@@ -313,11 +308,11 @@ abbrev pub paths_of : Option (List Dyn × Option (List ℕ)) → Paths
 paths_of known = record { rpath = path_in dt_rpath known; runpath = path_in dt_runpath known }
 
 -- it has no symbols but those for dynamic linking
-abbrev pub has_symbols : SectionHeader → Bool
-has_symbols s = s.sh_type == abi.SHT_SYMTAB
+abbrev pub has_symbol_table : List SectionHeader → Bool
+has_symbol_table sections = list_any (λ (s : SectionHeader). s.sh_type == abi.SHT_SYMTAB) sections
 
 abbrev pub is_stripped : List SectionHeader → Bool
-is_stripped sections = not (list_any has_symbols sections)
+is_stripped sections = not (has_symbol_table sections)
 
 abbrev pub has_unsafe_path : Paths → Bool
 has_unsafe_path paths = is_unsafe_path paths.rpath || is_unsafe_path paths.runpath
@@ -332,7 +327,7 @@ hardening_by f entries paths symbols features =
       relro = relro_of f.segments is_bound_now;
       binds_now = is_bound_now;
       has_nx = stack_of f.e_type f.segments;
-      writable_code = length (filter is_writable_code f.segments);
+      writable_code = count_writable_code f.segments;
       has_canary = any_symbol is_canary symbols;
       fortified = count_symbols is_fortified symbols;
       fortifiable = count_symbols is_fortifiable symbols;

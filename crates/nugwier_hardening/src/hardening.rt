@@ -10,21 +10,14 @@ ghost use Rattle.elf_records.specs.Number.{ok_map};
 ghost use Rattle.elf_records.specs.StringTable.{string_at};
 ghost use Rattle.elf_records.specs.Symbol.{symbol_reads};
 ghost use Rattle.elf_records.specs.Table.{table_items, table_view};
-ghost use Rattle.nugwier_hardening.specs.Hardening.{any_symbol, binds_now, count_symbols, dynamic_kind};
-ghost use Rattle.nugwier_hardening.specs.Hardening.{entries_unread, has_symbols};
-ghost use Rattle.nugwier_hardening.specs.Hardening.{feature_in, features_by, features_in};
-ghost use Rattle.nugwier_hardening.specs.Hardening.{features_of, file_kind};
-ghost use Rattle.nugwier_hardening.specs.Hardening.{first_properties, hardened, hardening_by};
-ghost use Rattle.nugwier_hardening.specs.Hardening.{headers_of};
-ghost use Rattle.nugwier_hardening.specs.Hardening.{has_flag, has_type, has_unsafe_path, is_canary};
-ghost use Rattle.nugwier_hardening.specs.Hardening.{is_executable_stack, is_fortifiable, is_fortified};
-ghost use Rattle.nugwier_hardening.specs.Hardening.{is_named, is_pie};
-ghost use Rattle.nugwier_hardening.specs.Hardening.{is_stripped};
-ghost use Rattle.nugwier_hardening.specs.Hardening.{is_unsafe_folder, is_unsafe_path, is_writable_code, judged_said};
-ghost use Rattle.nugwier_hardening.specs.Hardening.{kind_of, known_entries, lack_said, of_section, of_segment};
-ghost use Rattle.nugwier_hardening.specs.Hardening.{last_tagged, path_at, path_in, path_missed};
-ghost use Rattle.nugwier_hardening.specs.Hardening.{path_unread};
-ghost use Rattle.nugwier_hardening.specs.Hardening.{properties_of, properties_unread, property_section};
+ghost use Rattle.nugwier_hardening.specs.Hardening.{any_symbol, binds_now, count_symbols, dynamic_kind, entries_unread};
+ghost use Rattle.nugwier_hardening.specs.Hardening.{feature_in, features_by, features_of, file_kind, first_properties};
+ghost use Rattle.nugwier_hardening.specs.Hardening.{hardened, hardening_by, has_flag, has_symbol_table};
+ghost use Rattle.nugwier_hardening.specs.Hardening.{has_unsafe_path, headers_of};
+ghost use Rattle.nugwier_hardening.specs.Hardening.{is_canary, is_fortifiable, is_fortified, is_named, is_segment, is_stripped};
+ghost use Rattle.nugwier_hardening.specs.Hardening.{is_unsafe_folder, is_unsafe_path, judged_said, kind_of, known_entries};
+ghost use Rattle.nugwier_hardening.specs.Hardening.{lack_said, last_tagged, path_at, path_in, path_missed};
+ghost use Rattle.nugwier_hardening.specs.Hardening.{path_unread, properties_of, properties_unread, property_section};
 ghost use Rattle.nugwier_hardening.specs.Hardening.{property_segment, relro_of, stack_of, symbols_of};
 ghost use Rattle.nugwier_taking.specs.Read.{fault_said, if_read};
 ghost use Rattle.nugwier_taking.specs.Whole.{file_of};
@@ -178,10 +171,18 @@ fn take_properties<'f, E: EndianParse, R: ListedFile<E>>(
         ≡ properties_of (file_of (R.file file.now) (R.bytes file.now))) }
 {
     if let Some((number, segment)) = property_segment(file.segment_list()) {
-        return Ok(Some(take_segment(file, number, &segment)?));
+        return Ok(Some(PropertyBytes {
+            part: Part::Segment(number as u64),
+            align: segment.p_align,
+            bytes: taking::segment_data(file, &segment)?,
+        }));
     }
     match property_section(file)? {
-        Some((number, section)) => Ok(Some(take_section(file, number, &section)?)),
+        Some((number, section)) => Ok(Some(PropertyBytes {
+            part: Part::Section(number as u64),
+            align: section.sh_addralign,
+            bytes: taking::content(file, &section)?,
+        })),
         None => Ok(None),
     }
 }
@@ -196,22 +197,6 @@ fn property_segment(segments: &[ProgramHeader]) -> Option<(usize, ProgramHeader)
         .find(|one| one.1.p_type == abi::PT_GNU_PROPERTY)
 }
 
-fn take_segment<'f, E: EndianParse, R: ListedFile<E>>(
-    file: &'f R,
-    number: usize,
-    segment: &ProgramHeader,
-) -> Result<PropertyBytes<'f>, NotTaken>
-    ensures { IfOk result (λ found. property_view found
-        ≡ of_segment (file_of (R.file file.now) (R.bytes file.now)) (number, segment.now)) }
-{
-    let bytes = taking::segment_data(file, segment)?;
-    Ok(PropertyBytes {
-        part: Part::Segment(number as u64),
-        align: segment.p_align,
-        bytes,
-    })
-}
-
 fn property_section<E: EndianParse, R: ListedFile<E>>(
     file: &R,
 ) -> Result<Option<(usize, SectionHeader)>, NotTaken>
@@ -219,22 +204,6 @@ fn property_section<E: EndianParse, R: ListedFile<E>>(
 {
     let names = known_names(file)?;
     Ok(first_named(file.section_list(), &names, ".note.gnu.property"))
-}
-
-fn take_section<'f, E: EndianParse, R: ListedFile<E>>(
-    file: &'f R,
-    number: usize,
-    section: &SectionHeader,
-) -> Result<PropertyBytes<'f>, NotTaken>
-    ensures { IfOk result (λ found. property_view found
-        ≡ of_section (file_of (R.file file.now) (R.bytes file.now)) (number, section.now)) }
-{
-    let bytes = taking::content(file, section)?;
-    Ok(PropertyBytes {
-        part: Part::Section(number as u64),
-        align: section.sh_addralign,
-        bytes,
-    })
 }
 
 /// Says what cannot be read of the file of this path, how it is hardened, and what it lacks.
@@ -277,14 +246,14 @@ fn hardening_by<E: EndianParse>(
     ensures { result ≡ hardening_by (headers_view headers.entry) (option_copied entries.entry)
         (paths_view paths.entry) (option_map symbols_view symbols.now) features }
 {
-    let binds_now = is_bound_now(entries);
+    let binds_now = binds_now(entries);
     Hardening {
         machine: headers.machine,
         kind: file_kind(headers.e_type, headers.segments, entries),
         relro: relro_of(headers.segments, binds_now),
         binds_now,
         has_nx: stack_of(headers.e_type, headers.segments),
-        writable_code: count_writable_code(headers.segments),
+        writable_code: count_segments(abi::PT_LOAD, abi::PF_W | abi::PF_X, headers.segments),
         has_canary: has_canary(symbols),
         fortified: count_fortified(symbols),
         fortifiable: count_fortifiable(symbols),
@@ -337,38 +306,28 @@ fn say_lack<W: Write, V: Write>(
 
 // ---- segments
 
-fn has_segment(p_type: u32, segments: &[ProgramHeader]) -> bool
-    ensures { result ≡ list_any (has_type p_type) segments.now }
+// Whether a segment has a type, and all of some flags.
+fn is_segment(p_type: u32, flags: u32, segment: &ProgramHeader) -> bool
+    ensures { result ≡ is_segment p_type flags segment.now }
 {
-    segments.iter().any(|segment| segment.p_type == p_type)
+    segment.p_type == p_type && segment.p_flags & flags == flags
 }
 
-fn is_writable_code(segment: &ProgramHeader) -> bool
-    ensures { result ≡ is_writable_code segment.now }
-{
-    let flags = segment.p_flags;
-    segment.p_type == abi::PT_LOAD && flags & abi::PF_W != 0 && flags & abi::PF_X != 0
-}
-
-fn count_writable_code(segments: &[ProgramHeader]) -> u64
-    ensures { result ≡ length (filter is_writable_code segments.now) }
+fn has_segment(p_type: u32, flags: u32, segments: &[ProgramHeader]) -> bool
+    ensures { result ≡ list_any (is_segment p_type flags) segments.now }
 {
     segments
         .iter()
-        .filter(|segment| is_writable_code(*segment))
+        .any(|segment| is_segment(p_type, flags, segment))
+}
+
+fn count_segments(p_type: u32, flags: u32, segments: &[ProgramHeader]) -> u64
+    ensures { result ≡ length (filter (is_segment p_type flags) segments.now) }
+{
+    segments
+        .iter()
+        .filter(|segment| is_segment(p_type, flags, *segment))
         .count() as u64
-}
-
-fn is_executable_stack(segment: &ProgramHeader) -> bool
-    ensures { result ≡ is_executable_stack segment.now }
-{
-    segment.p_type == abi::PT_GNU_STACK && segment.p_flags & abi::PF_X != 0
-}
-
-fn has_executable_stack(segments: &[ProgramHeader]) -> bool
-    ensures { result ≡ list_any is_executable_stack segments.now }
-{
-    segments.iter().any(is_executable_stack)
 }
 
 // Whether the stack is not executable, of a program or a shared object.
@@ -376,23 +335,19 @@ fn stack_of(e_type: u16, segments: &[ProgramHeader]) -> Option<bool>
     ensures { result ≡ stack_of e_type segments.now }
 {
     if e_type == abi::ET_EXEC || e_type == abi::ET_DYN {
-        let is_asked_for = has_segment(abi::PT_GNU_STACK, segments);
-        Some(is_asked_for && !has_executable_stack(segments))
+        let is_asked_for = has_segment(abi::PT_GNU_STACK, 0, segments);
+        Some(is_asked_for && !has_segment(abi::PT_GNU_STACK, abi::PF_X, segments))
     } else {
         None
     }
 }
 
-fn has_symbols(section: &SectionHeader) -> bool
-    ensures { result ≡ has_symbols section.now }
-{
-    section.sh_type == abi::SHT_SYMTAB
-}
-
 fn has_symbol_table(sections: &[SectionHeader]) -> bool
-    ensures { result ≡ list_any has_symbols sections.now }
+    ensures { result ≡ has_symbol_table sections.now }
 {
-    sections.iter().any(has_symbols)
+    sections
+        .iter()
+        .any(|section| section.sh_type == abi::SHT_SYMTAB)
 }
 
 fn is_stripped(sections: &[SectionHeader]) -> bool
@@ -467,36 +422,23 @@ fn has_any(tag: i64, entries: &[Dyn]) -> bool
     entries.iter().any(|entry| has_tag(entry, tag))
 }
 
-fn binds_now(entries: &[Dyn]) -> bool
-    ensures { result ≡ binds_now entries.now }
-{
-    has_any(abi::DT_BIND_NOW, entries)
-        || has_flag(abi::DT_FLAGS, abi::DF_BIND_NOW as u64, entries)
-        || has_flag(abi::DT_FLAGS_1, abi::DF_1_NOW as u64, entries)
-}
-
-fn is_bound_now(entries: Option<&[Dyn]>) -> Option<bool>
+fn binds_now(entries: Option<&[Dyn]>) -> Option<bool>
     ensures { result ≡ option_map binds_now (option_copied entries.entry) }
 {
-    match entries {
-        Some(entries) => Some(binds_now(entries)),
-        None => None,
-    }
+    let entries = entries?;
+    let is_bound = has_any(abi::DT_BIND_NOW, entries)
+        || has_flag(abi::DT_FLAGS, abi::DF_BIND_NOW as u64, entries)
+        || has_flag(abi::DT_FLAGS_1, abi::DF_1_NOW as u64, entries);
+    Some(is_bound)
 }
 
-// Whether a file is a program at any address: by its flag or, of linkers before that flag, by an entry that no library
-// has.
-fn is_pie(has_interpreter: bool, entries: &[Dyn]) -> bool
-    ensures { result ≡ is_pie has_interpreter entries.now }
-{
-    let is_program = has_interpreter && has_any(abi::DT_DEBUG, entries);
-    has_flag(abi::DT_FLAGS_1, abi::DF_1_PIE as u64, entries) || is_program
-}
-
+// A program at any address has a flag or, of linkers before that flag, an entry that no library has.
 fn dynamic_kind(has_interpreter: bool, entries: &[Dyn]) -> FileKind
     ensures { result ≡ dynamic_kind has_interpreter entries.now }
 {
-    match (is_pie(has_interpreter, entries), has_interpreter) {
+    let is_program = has_interpreter && has_any(abi::DT_DEBUG, entries);
+    let is_pie = has_flag(abi::DT_FLAGS_1, abi::DF_1_PIE as u64, entries) || is_program;
+    match (is_pie, has_interpreter) {
         (true, true) => FileKind::Pie,
         (true, false) => FileKind::StaticPie,
         (false, _) => FileKind::SharedObject,
@@ -512,7 +454,7 @@ fn file_kind(e_type: u16, segments: &[ProgramHeader], entries: Option<&[Dyn]>) -
         abi::ET_REL => Some(FileKind::Relocatable),
         abi::ET_CORE => Some(FileKind::Core),
         abi::ET_DYN => {
-            let has_interpreter = has_segment(abi::PT_INTERP, segments);
+            let has_interpreter = has_segment(abi::PT_INTERP, 0, segments);
             Some(dynamic_kind(has_interpreter, entries?))
         }
         _ => None,
@@ -523,7 +465,7 @@ fn file_kind(e_type: u16, segments: &[ProgramHeader], entries: Option<&[Dyn]>) -
 fn relro_of(segments: &[ProgramHeader], binds_now: Option<bool>) -> Option<Relro>
     ensures { result ≡ relro_of segments.now binds_now }
 {
-    if !has_segment(abi::PT_GNU_RELRO, segments) {
+    if !has_segment(abi::PT_GNU_RELRO, 0, segments) {
         return Some(Relro::Nothing);
     }
     match binds_now {
@@ -912,12 +854,15 @@ fn features_by<E: EndianParse>(
     }
 }
 
-// The features in bytes of notes.
+// The features in bytes of notes; without such a property the code has none.
 fn features_of<E: EndianParse>(order: E, class: Class, wanted: u32, align: u64, bytes: &[u8]) -> u64
     ensures { result ≡ features_of (E.little order) class wanted align bytes.now }
 {
     let notes = NoteIterator::new(order, Class::ELF64, note_align(align as usize), bytes);
-    features_in(order, class, wanted, first_properties(notes))
+    match feature_in(order, class, wanted, first_properties(notes)) {
+        Some(features) => features as u64,
+        None => 0,
+    }
 }
 
 // The descriptor of the first note with properties.
@@ -934,16 +879,7 @@ fn first_properties<'f, E: EndianParse>(notes: NoteIterator<'f, E>) -> &'f [u8]
     &[]
 }
 
-// The number of the first property of a type; 0 if there is none.
-fn features_in<E: EndianParse>(order: E, class: Class, wanted: u32, bytes: &[u8]) -> u64
-    ensures { result ≡ features_in (E.little order) class wanted bytes.now }
-{
-    match feature_in(order, class, wanted, bytes) {
-        Some(features) => features as u64,
-        None => 0,
-    }
-}
-
+// The number of the first property of a type.
 fn feature_in<E: EndianParse>(order: E, class: Class, wanted: u32, bytes: &[u8]) -> Option<u32>
     ensures { result ≡ feature_in (E.little order) class wanted bytes.now bytes.now }
 {

@@ -104,15 +104,12 @@ abbrev pub listed_said : PlaceView → Vendor → Result (List ℕ) AttributeErr
 listed_said p vendor (Ok bytes) = attributes_said p vendor bytes bytes
 listed_said p vendor (Err e) = attributes_wrong p.section e
 
--- Tag_Section and Tag_Symbol are before the numbers of sections and of symbols
-abbrev pub has_list : ℕ → Bool
-has_list scope = scope == 2 || scope == 3
-
--- under a tag that is none of the three the attributes are not known
+-- after Tag_Section (2) and Tag_Symbol (3) there are numbers of sections and of symbols; under a tag that is neither of
+-- these nor Tag_File (1) the attributes are not known
 abbrev pub scope_said : PlaceView → Vendor → List ℕ → List Said
 scope_said p vendor bytes =
     states kind.AttributeScope (scope_members p)
-    ∷ (if has_list p.scope then targets_said p bytes bytes ++ listed_said p vendor (after_list bytes bytes)
+    ∷ (if p.scope == 2 || p.scope == 3 then targets_said p bytes bytes ++ listed_said p vendor (after_list bytes bytes)
     else if p.scope == 1 then attributes_said p vendor bytes bytes
     else [])
 
@@ -127,18 +124,12 @@ scopes_said file k name vendor (byte ∷ bytes) (first ∷ rest) = elim (first_s
 
 -- ---- a subsection
 
-abbrev pub vendor_members : ℕ → SubsectionView → Members
-vendor_members k s =
-    (codes "section", number k)
-    ∷ (codes "vendor", text (Some s.vendor))
-    ∷ (codes "content", bytes_content s.content)
-    ∷ []
-
 -- of a vendor whose attributes have a known form, or as its bytes
 abbrev pub subsection_said : NoteFile → ℕ → SubsectionView → List Said
 subsection_said file k s = elim (vendor_of s.vendor) [
   | Some vendor ↦ scopes_said file k s.vendor vendor s.content s.content
-  | None ↦ states kind.VendorAttributes (vendor_members k s) ∷ []
+  | None ↦ states kind.VendorAttributes ((codes "section", number k) ∷ (codes "vendor", text (Some s.vendor))
+      ∷ (codes "content", bytes_content s.content) ∷ []) ∷ []
 ]
 
 abbrev pub subsections_said : NoteFile → ℕ → List ℕ → List ℕ → List Said

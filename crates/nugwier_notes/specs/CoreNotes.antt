@@ -1,6 +1,6 @@
 -- What is said of the notes of the owner CORE, which describe a process that Linux wrote into a core file. Their sources
 -- are include/uapi/linux/elf.h, elfcore.h, auxvec.h and fs/binfmt_elf.c of Linux.
-use Rattle.std.specs.Prelude.{ℕ, ◌-◌, ◌*◌, ◌/◌, ◌%◌, ◌==◌, ◌||◌, ◌&&◌, nat_eq, nat_le, Bool, false, true, if◌then◌else◌}
+use Rattle.std.specs.Prelude.{ℕ, ◌+◌, ◌-◌, ◌*◌, ◌/◌, ◌%◌, ◌==◌, ◌||◌, ◌&&◌, nat_eq, nat_le, Bool, false, true, if◌then◌else◌}
 use Rattle.std.specs.Prelude.{List, [], ◌∷◌, ◌++◌}
 use Rattle.std.specs.Prelude.{codes, drop, filter, length, take, ℤ, Option, Some, None}
 use Rattle.std.specs.Option.{option_and_then, option_map}
@@ -18,7 +18,6 @@ use Rattle.nugwier_notes.specs.Properties.{number_in}
 use Rattle.nugwier_writing.specs.Members.{Members, number, signed, text, word}
 use Rattle.nugwier_report.specs.Said.{Said, said_if, states}
 use Rattle.nugwier_notes.specs.declared.core_notes.AuxiliaryEntry.{AuxiliaryEntry}
-use Rattle.nugwier_notes.specs.declared.core_notes.CoreSizes.{CoreSizes}
 use Rattle.nugwier_notes.specs.declared.core_notes.MappedFile.{MappedFile}
 use Rattle.nugwier_notes.specs.declared.core_notes.MappedFiles.{MappedFiles}
 use Rattle.nugwier_notes.specs.declared.core_notes.ProcessStatus.{ProcessStatus}
@@ -33,36 +32,27 @@ is_core_note name = bytes_eq name (codes "CORE\0")
 
 -- ---- the sizes of elf_prstatus and elf_prpsinfo, by the machine (e_machine)
 
-abbrev pub sizes : ℕ → ℕ → CoreSizes
-sizes status process = record { status = status; process = process }
-
--- of a 32-bit file: EM_386, EM_MIPS (of the ABI o32), EM_PPC, EM_S390, EM_ARM, EM_X86_64 (x32), EM_RISCV
-abbrev pub short_sizes : ℕ → Option CoreSizes
-short_sizes machine =
-    if machine == 3 then Some (sizes 144 124)
-    else if machine == 8 then Some (sizes 256 128)
-    else if machine == 20 then Some (sizes 268 128)
-    else if machine == 22 then Some (sizes 224 124)
-    else if machine == 40 then Some (sizes 148 124)
-    else if machine == 62 then Some (sizes 296 124)
-    else if machine == 243 then Some (sizes 204 128)
+-- of a 32-bit file: EM_386, EM_MIPS (of the ABI o32), EM_PPC, EM_S390, EM_ARM, EM_X86_64 (x32), EM_RISCV; of a 64-bit
+-- file: EM_MIPS, EM_PPC64, EM_S390, EM_X86_64, EM_AARCH64, EM_RISCV, EM_LOONGARCH
+abbrev pub core_sizes : Class → ℕ → Option (ℕ × ℕ)
+core_sizes ELF32 machine =
+    if machine == 3 then Some (144, 124)
+    else if machine == 8 then Some (256, 128)
+    else if machine == 20 then Some (268, 128)
+    else if machine == 22 then Some (224, 124)
+    else if machine == 40 then Some (148, 124)
+    else if machine == 62 then Some (296, 124)
+    else if machine == 243 then Some (204, 128)
     else None
-
--- of a 64-bit file: EM_MIPS, EM_PPC64, EM_S390, EM_X86_64, EM_AARCH64, EM_RISCV, EM_LOONGARCH
-abbrev pub long_sizes : ℕ → Option CoreSizes
-long_sizes machine =
-    if machine == 8 then Some (sizes 480 136)
-    else if machine == 21 then Some (sizes 504 136)
-    else if machine == 22 then Some (sizes 336 136)
-    else if machine == 62 then Some (sizes 336 136)
-    else if machine == 183 then Some (sizes 392 136)
-    else if machine == 243 then Some (sizes 376 136)
-    else if machine == 258 then Some (sizes 480 136)
+core_sizes ELF64 machine =
+    if machine == 8 then Some (480, 136)
+    else if machine == 21 then Some (504, 136)
+    else if machine == 22 then Some (336, 136)
+    else if machine == 62 then Some (336, 136)
+    else if machine == 183 then Some (392, 136)
+    else if machine == 243 then Some (376, 136)
+    else if machine == 258 then Some (480, 136)
     else None
-
-abbrev pub core_sizes : Class → ℕ → Option CoreSizes
-core_sizes ELF32 machine = short_sizes machine
-core_sizes ELF64 machine = long_sizes machine
 
 abbrev pub is_short : Class → Bool
 is_short ELF32 = true
@@ -70,18 +60,15 @@ is_short ELF64 = false
 
 -- ---- NT_PRSTATUS: elf_prstatus
 
--- pr_pid follows pr_info, which has 12 bytes, pr_cursig, and pr_sigpend and pr_sighold, which have the size of an address
-abbrev pub pid_offset : Class → ℕ
-pid_offset ELF32 = 24
-pid_offset ELF64 = 32
-
 abbrev pub short_in : NoteFile → List ℕ → ℕ → Option ℕ
 short_in file bytes o = result_ok (number_at file.is_little 2 bytes o)
 
+-- pr_pid follows pr_info, which has 12 bytes, pr_cursig with what fills it up to 4, and pr_sigpend and pr_sighold, which
+-- have the size of an address
 abbrev pub status_fields : NoteFile → List ℕ → Option ProcessStatus
 status_fields file bytes =
     option_and_then (λ signal. option_map (λ pid. record { signal = signal; pid = pid })
-    (number_in file.is_little bytes (pid_offset file.class))) (short_in file bytes 12)
+    (number_in file.is_little bytes (16 + 2 * address_size file.class))) (short_in file bytes 12)
 
 -- of the ABI n32 of MIPS (EM_MIPS), whose registers have 64 bits
 abbrev pub is_n32_status : NoteFile → List ℕ → Bool
@@ -89,7 +76,7 @@ is_n32_status file bytes = is_short file.class && file.machine == 8 && length by
 
 abbrev pub is_status : NoteFile → List ℕ → Bool
 is_status file bytes = elim (core_sizes file.class file.machine) [
-  | Some known ↦ length bytes == known.status || is_n32_status file bytes
+  | Some known ↦ length bytes == known.0 || is_n32_status file bytes
   | None ↦ false
 ]
 
@@ -111,7 +98,7 @@ status_said part i status = states kind.ProcessStatus (status_members part i sta
 
 abbrev pub is_process : NoteFile → List ℕ → Bool
 is_process file bytes = elim (core_sizes file.class file.machine) [
-  | Some known ↦ length bytes == known.process
+  | Some known ↦ length bytes == known.1
   | None ↦ false
 ]
 
@@ -139,18 +126,16 @@ process_said file part i bytes =
 abbrev pub signed_in : NoteFile → List ℕ → ℕ → Option ℤ
 signed_in file bytes o = result_ok (signed_number_at file.is_little 4 bytes o)
 
-abbrev pub code_offset : ℕ → ℕ
-code_offset machine = if machine == 8 then 4 else 8
-
-abbrev pub error_offset : ℕ → ℕ
-error_offset machine = if machine == 8 then 8 else 4
+-- where si_code and si_errno are
+abbrev pub signal_offsets : ℕ → ℕ × ℕ
+signal_offsets machine = if machine == 8 then (4, 8) else (8, 4)
 
 abbrev pub signal_fields : NoteFile → List ℕ → Option SignalInfo
 signal_fields file bytes =
+    let offsets = signal_offsets file.machine in
     option_and_then (λ signal. option_and_then (λ code. option_map (λ error.
     record { signal = signal; code = code; error = error })
-    (signed_in file bytes (error_offset file.machine))) (signed_in file bytes (code_offset file.machine)))
-    (signed_in file bytes 0)
+    (signed_in file bytes offsets.1)) (signed_in file bytes offsets.0)) (signed_in file bytes 0)
 
 abbrev pub signal_in : NoteFile → List ℕ → Option SignalInfo
 signal_in file bytes = if length bytes == 128 then signal_fields file bytes else None

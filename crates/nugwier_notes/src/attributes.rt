@@ -4,10 +4,9 @@ ghost use Rattle.std.specs.Option.{option_copied};
 ghost use Rattle.elf_attributes.specs.Attributes.{attribute_view, subsection_view};
 ghost use Rattle.elf_records.specs.Number.{ok_map};
 ghost use Rattle.nugwier_notes.specs.Attributes.{attribute_kind, attribute_members, attribute_said, attributes_said};
-ghost use Rattle.nugwier_notes.specs.Attributes.{attributes_wrong, build_attributes_said, has_list, listed_said};
-ghost use Rattle.nugwier_notes.specs.Attributes.{number_name, place_view, scope_members, scope_said, scopes_said};
-ghost use Rattle.nugwier_notes.specs.Attributes.{subsection_said, subsections_said, target_members, targets_said, text_content};
-ghost use Rattle.nugwier_notes.specs.Attributes.{vendor_members};
+ghost use Rattle.nugwier_notes.specs.Attributes.{attributes_wrong, build_attributes_said, listed_said, number_name};
+ghost use Rattle.nugwier_notes.specs.Attributes.{place_view, scope_members, scope_said, scopes_said, subsection_said};
+ghost use Rattle.nugwier_notes.specs.Attributes.{subsections_said, target_members, targets_said, text_content};
 ghost use Rattle.nugwier_writing.specs.Members.{content_of, members_said};
 ghost use Rattle.nugwier_report.specs.Said.{saying};
 
@@ -87,16 +86,6 @@ fn say_subsections<W: Write, V: Write>(
     Ok(())
 }
 
-fn vendor_members<'a>(section: u64, subsection: Subsection<'a>) -> [Member<'a>; 3]
-    ensures { members_said result ≡ vendor_members section (subsection_view subsection.entry) }
-{
-    [
-        ("section", Value::Number(section)),
-        ("vendor", Value::Text(Some(subsection.vendor))),
-        ("content", Value::Bytes(subsection.content)),
-    ]
-}
-
 fn say_subsection<W: Write, V: Write>(
     file: NoteFile,
     section: u64,
@@ -107,10 +96,15 @@ fn say_subsection<W: Write, V: Write>(
         (subsection_said file section (subsection_view subsection.entry))) }
 {
     let Subsection { vendor, content } = subsection;
-    match vendor_of(vendor) {
-        Some(known) => say_scopes(file, section, vendor, known, content, report),
-        None => report.state(Kind::VendorAttributes, &vendor_members(section, subsection)),
+    if let Some(known) = vendor_of(vendor) {
+        return say_scopes(file, section, vendor, known, content, report);
     }
+    let members = [
+        ("section", Value::Number(section)),
+        ("vendor", Value::Text(Some(subsection.vendor))),
+        ("content", Value::Bytes(subsection.content)),
+    ];
+    report.state(Kind::VendorAttributes, &members)
 }
 
 // ---- what attributes are of
@@ -160,13 +154,6 @@ fn scope_members(place: AttributePlace<'_>) -> [Member<'_>; 4]
     ]
 }
 
-// Whether the numbers of sections or of symbols come before the attributes.
-fn has_list(scope: u64) -> bool
-    ensures { result ≡ has_list scope }
-{
-    scope == 2 || scope == 3
-}
-
 fn say_scope<W: Write, V: Write>(
     place: AttributePlace<'_>,
     known: Vendor,
@@ -176,7 +163,8 @@ fn say_scope<W: Write, V: Write>(
     ensures { OnOk result (report.new ≡ saying report.old (scope_said (place_view place.entry) known bytes.now)) }
 {
     report.state(Kind::AttributeScope, &scope_members(place))?;
-    if has_list(place.scope) {
+    // the numbers of sections or of symbols come before the attributes
+    if place.scope == 2 || place.scope == 3 {
         say_targets(place, bytes, report)?;
         say_listed(place, known, after_list(bytes), report)
     } else if place.scope == 1 {

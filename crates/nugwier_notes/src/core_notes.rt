@@ -1,16 +1,13 @@
 //! The notes of the owner `CORE`, which describe a process that Linux wrote into a core file.
 ghost use Rattle.std.specs.Prelude.{◌≡◌, ◌==◌, OnOk};
 ghost use Rattle.elf_names.specs.Table.{rows_of};
-ghost use Rattle.nugwier_notes.specs.CoreNotes.{auxiliary_said, auxiliary_types, code_offset, core_said, core_sizes};
-ghost use Rattle.nugwier_notes.specs.CoreNotes.{entries_said, entry_in, entry_members, entry_said, error_offset};
-ghost use Rattle.nugwier_notes.specs.CoreNotes.{files_in, files_members, files_said, is_auxiliary, is_core_note};
-ghost use Rattle.nugwier_notes.specs.CoreNotes.{is_n32_status, is_process, is_status, long_sizes, mapped_in};
-ghost use Rattle.nugwier_notes.specs.CoreNotes.{mapped_members, mapped_said};
-ghost use Rattle.nugwier_notes.specs.CoreNotes.{mappings_in, mappings_said, names_at, nul_count, pid_offset};
-ghost use Rattle.nugwier_notes.specs.CoreNotes.{process_arguments, process_members, process_name, process_said};
-ghost use Rattle.nugwier_notes.specs.CoreNotes.{short_in, short_sizes, signal_fields, signal_in, signal_members};
-ghost use Rattle.nugwier_notes.specs.CoreNotes.{signal_said, signed_in, sizes, status_fields, status_in};
-ghost use Rattle.nugwier_notes.specs.CoreNotes.{status_members, status_said, with_names};
+ghost use Rattle.nugwier_notes.specs.CoreNotes.{auxiliary_said, auxiliary_types, core_said, core_sizes, entries_said};
+ghost use Rattle.nugwier_notes.specs.CoreNotes.{entry_in, entry_members, entry_said, files_in, files_members, files_said};
+ghost use Rattle.nugwier_notes.specs.CoreNotes.{is_auxiliary, is_core_note, is_n32_status, is_process, is_status};
+ghost use Rattle.nugwier_notes.specs.CoreNotes.{mapped_in, mapped_members, mapped_said, mappings_in, mappings_said};
+ghost use Rattle.nugwier_notes.specs.CoreNotes.{names_at, nul_count, process_members, process_said, short_in, signal_in};
+ghost use Rattle.nugwier_notes.specs.CoreNotes.{signal_members, signal_offsets, signal_said, signed_in, status_in};
+ghost use Rattle.nugwier_notes.specs.CoreNotes.{status_members, status_said};
 ghost use Rattle.nugwier_writing.specs.Members.{members_said};
 ghost use Rattle.nugwier_report.specs.Said.{said_if, saying};
 
@@ -57,57 +54,26 @@ pub(crate) fn say_core_note<W: Write, V: Write>(
 
 // ---- sizes by the machine
 
-/// The sizes of `elf_prstatus` and of `elf_prpsinfo`.
-#[derive(Clone, Copy)]
-pub struct CoreSizes {
-    pub status: usize,
-    pub process: usize,
-}
-
-fn sizes(status: usize, process: usize) -> CoreSizes
-    ensures { result ≡ sizes status process }
-{
-    CoreSizes { status, process }
-}
-
-// Those of 32-bit files.
-fn short_sizes(machine: u16) -> Option<CoreSizes>
-    ensures { result ≡ short_sizes machine }
-{
-    match machine {
-        abi::EM_386 => Some(sizes(144, 124)),
-        abi::EM_MIPS => Some(sizes(256, 128)),
-        abi::EM_PPC => Some(sizes(268, 128)),
-        abi::EM_S390 => Some(sizes(224, 124)),
-        abi::EM_ARM => Some(sizes(148, 124)),
-        abi::EM_X86_64 => Some(sizes(296, 124)),
-        abi::EM_RISCV => Some(sizes(204, 128)),
-        _ => None,
-    }
-}
-
-// Those of 64-bit files.
-fn long_sizes(machine: u16) -> Option<CoreSizes>
-    ensures { result ≡ long_sizes machine }
-{
-    match machine {
-        abi::EM_MIPS => Some(sizes(480, 136)),
-        abi::EM_PPC64 => Some(sizes(504, 136)),
-        abi::EM_S390 => Some(sizes(336, 136)),
-        abi::EM_X86_64 => Some(sizes(336, 136)),
-        abi::EM_AARCH64 => Some(sizes(392, 136)),
-        abi::EM_RISCV => Some(sizes(376, 136)),
-        abi::EM_LOONGARCH => Some(sizes(480, 136)),
-        _ => None,
-    }
-}
-
-fn core_sizes(class: Class, machine: u16) -> Option<CoreSizes>
+// The sizes of `elf_prstatus` and of `elf_prpsinfo`.
+fn core_sizes(class: Class, machine: u16) -> Option<(usize, usize)>
     ensures { result ≡ core_sizes class machine }
 {
-    match class {
-        Class::ELF32 => short_sizes(machine),
-        Class::ELF64 => long_sizes(machine),
+    match (class, machine) {
+        (Class::ELF32, abi::EM_386) => Some((144, 124)),
+        (Class::ELF32, abi::EM_MIPS) => Some((256, 128)),
+        (Class::ELF32, abi::EM_PPC) => Some((268, 128)),
+        (Class::ELF32, abi::EM_S390) => Some((224, 124)),
+        (Class::ELF32, abi::EM_ARM) => Some((148, 124)),
+        (Class::ELF32, abi::EM_X86_64) => Some((296, 124)),
+        (Class::ELF32, abi::EM_RISCV) => Some((204, 128)),
+        (Class::ELF64, abi::EM_MIPS) => Some((480, 136)),
+        (Class::ELF64, abi::EM_PPC64) => Some((504, 136)),
+        (Class::ELF64, abi::EM_S390) => Some((336, 136)),
+        (Class::ELF64, abi::EM_X86_64) => Some((336, 136)),
+        (Class::ELF64, abi::EM_AARCH64) => Some((392, 136)),
+        (Class::ELF64, abi::EM_RISCV) => Some((376, 136)),
+        (Class::ELF64, abi::EM_LOONGARCH) => Some((480, 136)),
+        _ => None,
     }
 }
 
@@ -120,15 +86,6 @@ pub struct ProcessStatus {
     pub pid: u32,
 }
 
-fn pid_offset(class: Class) -> usize
-    ensures { result ≡ pid_offset class }
-{
-    match class {
-        Class::ELF32 => 24,
-        Class::ELF64 => 32,
-    }
-}
-
 fn short_in(file: NoteFile, bytes: &[u8], offset: usize) -> Option<u16>
     ensures { result ≡ short_in file bytes.now offset }
 {
@@ -136,29 +93,22 @@ fn short_in(file: NoteFile, bytes: &[u8], offset: usize) -> Option<u16>
     file.order().parse_u16_at(&mut offset, bytes).ok()
 }
 
-fn status_fields(file: NoteFile, bytes: &[u8]) -> Option<ProcessStatus>
-    ensures { result ≡ status_fields file bytes.now }
-{
-    let signal = short_in(file, bytes, 12)?;
-    let pid = number_in(file.order(), bytes, pid_offset(file.class))?;
-    Some(ProcessStatus { signal, pid })
-}
-
 fn status_in(file: NoteFile, bytes: &[u8]) -> Option<ProcessStatus>
     ensures { result ≡ status_in file bytes.now }
 {
-    if is_status(file, bytes) {
-        status_fields(file, bytes)
-    } else {
-        None
+    if !is_status(file, bytes) {
+        return None;
     }
+    let signal = short_in(file, bytes, 12)?;
+    let pid = number_in(file.order(), bytes, 16 + 2 * address_size(file.class))?;
+    Some(ProcessStatus { signal, pid })
 }
 
 fn is_status(file: NoteFile, bytes: &[u8]) -> bool
     ensures { result ≡ is_status file bytes.now }
 {
     match core_sizes(file.class, file.machine) {
-        Some(known) => bytes.len() == known.status || is_n32_status(file, bytes),
+        Some((size, _)) => bytes.len() == size || is_n32_status(file, bytes),
         None => false,
     }
 }
@@ -201,33 +151,22 @@ fn is_process(file: NoteFile, bytes: &[u8]) -> bool
     ensures { result ≡ is_process file bytes.now }
 {
     match core_sizes(file.class, file.machine) {
-        Some(known) => bytes.len() == known.process,
+        Some((_, size)) => bytes.len() == size,
         None => false,
     }
-}
-
-// The name of the program, in 16 bytes before the arguments.
-fn process_name(bytes: &[u8]) -> &[u8]
-    ensures { result.now ≡ process_name bytes.now }
-{
-    text_in(first_of(16, rest_of(bytes.len().saturating_sub(96), bytes)))
-}
-
-// The arguments, in the last 80 bytes.
-fn process_arguments(bytes: &[u8]) -> &[u8]
-    ensures { result.now ≡ process_arguments bytes.now }
-{
-    text_in(rest_of(bytes.len().saturating_sub(80), bytes))
 }
 
 fn process_members(part: Part, number: u64, bytes: &[u8]) -> [Member<'_>; 4]
     ensures { members_said result ≡ process_members part number bytes.now }
 {
+    // the name of the program has 16 bytes before the arguments, which are in the last 80 bytes
+    let name = text_in(first_of(16, rest_of(bytes.len().saturating_sub(96), bytes)));
+    let arguments = text_in(rest_of(bytes.len().saturating_sub(80), bytes));
     [
         part_member(part),
         ("note", Value::Number(number)),
-        ("pr_fname", Value::Text(Some(process_name(bytes)))),
-        ("pr_psargs", Value::Text(Some(process_arguments(bytes)))),
+        ("pr_fname", Value::Text(Some(name))),
+        ("pr_psargs", Value::Text(Some(arguments))),
     ]
 }
 
@@ -264,39 +203,32 @@ fn signed_in(file: NoteFile, bytes: &[u8], offset: usize) -> Option<i32>
     file.order().parse_i32_at(&mut offset, bytes).ok()
 }
 
-fn code_offset(machine: u16) -> usize
-    ensures { result ≡ code_offset machine }
+// Where the code and the error are.
+fn signal_offsets(machine: u16) -> (usize, usize)
+    ensures { result ≡ signal_offsets machine }
 {
-    if machine == abi::EM_MIPS { 4 } else { 8 }
-}
-
-fn error_offset(machine: u16) -> usize
-    ensures { result ≡ error_offset machine }
-{
-    if machine == abi::EM_MIPS { 8 } else { 4 }
-}
-
-fn signal_fields(file: NoteFile, bytes: &[u8]) -> Option<SignalInfo>
-    ensures { result ≡ signal_fields file bytes.now }
-{
-    let signal = signed_in(file, bytes, 0)?;
-    let code = signed_in(file, bytes, code_offset(file.machine))?;
-    let error = signed_in(file, bytes, error_offset(file.machine))?;
-    Some(SignalInfo {
-        signal,
-        code,
-        error,
-    })
+    if machine == abi::EM_MIPS {
+        (4, 8)
+    } else {
+        (8, 4)
+    }
 }
 
 fn signal_in(file: NoteFile, bytes: &[u8]) -> Option<SignalInfo>
     ensures { result ≡ signal_in file bytes.now }
 {
-    if bytes.len() == 128 {
-        signal_fields(file, bytes)
-    } else {
-        None
+    if bytes.len() != 128 {
+        return None;
     }
+    let (code_at, error_at) = signal_offsets(file.machine);
+    let signal = signed_in(file, bytes, 0)?;
+    let code = signed_in(file, bytes, code_at)?;
+    let error = signed_in(file, bytes, error_at)?;
+    Some(SignalInfo {
+        signal,
+        code,
+        error,
+    })
 }
 
 fn say_signal<W: Write, V: Write>(
@@ -518,11 +450,15 @@ fn mappings_in(file: NoteFile, bytes: &[u8]) -> &[u8]
     rest_of(2 * address_size(file.class), bytes)
 }
 
-// These mappings, if there is a name for each.
-fn with_names(count: u64, page_size: u64, bytes: &[u8], names_at: usize) -> Option<MappedFiles>
-    ensures { result ≡ with_names count page_size bytes.now names_at }
+fn files_in(file: NoteFile, bytes: &[u8]) -> Option<MappedFiles>
+    ensures { result ≡ files_in file bytes.now }
 {
-    if count <= nul_count(rest_of(names_at, bytes)) as u64 {
+    let count = address_in(file, bytes, 0)?;
+    let page_size = address_in(file, bytes, address_size(file.class))?;
+    let mappings = mappings_in(file, bytes);
+    let names_at = names_at(file.class, count, mappings)?;
+    // if there is a name for each
+    if count <= nul_count(rest_of(names_at, mappings)) as u64 {
         Some(MappedFiles {
             count,
             page_size,
@@ -531,16 +467,6 @@ fn with_names(count: u64, page_size: u64, bytes: &[u8], names_at: usize) -> Opti
     } else {
         None
     }
-}
-
-fn files_in(file: NoteFile, bytes: &[u8]) -> Option<MappedFiles>
-    ensures { result ≡ files_in file bytes.now }
-{
-    let count = address_in(file, bytes, 0)?;
-    let page_size = address_in(file, bytes, address_size(file.class))?;
-    let mappings = mappings_in(file, bytes);
-    let names_at = names_at(file.class, count, mappings)?;
-    with_names(count, page_size, mappings, names_at)
 }
 
 fn mapped_in(file: NoteFile, bytes: &[u8]) -> Option<MappedFile>
@@ -625,23 +551,6 @@ fn say_mappings<W: Write, V: Write>(
     Ok(())
 }
 
-fn say_each_file<W: Write, V: Write>(
-    file: NoteFile,
-    part: Part,
-    number: u64,
-    bytes: &[u8],
-    files: MappedFiles,
-    report: &mut Report<'_, W, V>,
-) -> Result<(), Stop>
-    ensures { OnOk result (report.new ≡ saying report.old (files_said file part number bytes.now files)) }
-{
-    let mappings = mappings_in(file, bytes);
-    let table = first_of(files.names_at, mappings);
-    let texts = rest_of(files.names_at, mappings);
-    report.state(Kind::MappedFiles, &files_members(part, number, files))?;
-    say_mappings(file, part, number, table, texts, report)
-}
-
 fn say_files<W: Write, V: Write>(
     file: NoteFile,
     part: Part,
@@ -653,8 +562,12 @@ fn say_files<W: Write, V: Write>(
     ensures { OnOk result (report.new ≡ saying report.old
         (said_if (files_said file part number bytes.now) files)) }
 {
-    match files {
-        Some(files) => say_each_file(file, part, number, bytes, files, report),
-        None => Ok(()),
-    }
+    let Some(files) = files else {
+        return Ok(());
+    };
+    let mappings = mappings_in(file, bytes);
+    let table = first_of(files.names_at, mappings);
+    let texts = rest_of(files.names_at, mappings);
+    report.state(Kind::MappedFiles, &files_members(part, number, files))?;
+    say_mappings(file, part, number, table, texts, report)
 }

@@ -4,11 +4,9 @@ ghost use Rattle.elf_names.specs.Flags.{flags_of};
 ghost use Rattle.elf_names.specs.Table.{rows_of};
 ghost use Rattle.elf_records.specs.Endian.{any_is_little};
 ghost use Rattle.nugwier_writing.specs.Members.{members_said};
-ghost use Rattle.nugwier_notes.specs.Properties.{feature_type, is_feature_type, is_level_type, is_property_note};
-ghost use Rattle.nugwier_notes.specs.Properties.{is_used_type};
+ghost use Rattle.nugwier_notes.specs.Properties.{feature_type, is_feature_type, is_property_note};
 ghost use Rattle.nugwier_notes.specs.Properties.{number_in, padded, properties_said, property_at, property_flags};
-ghost use Rattle.nugwier_notes.specs.Properties.{property_members, property_number};
-ghost use Rattle.nugwier_notes.specs.Properties.{property_said, property_types};
+ghost use Rattle.nugwier_notes.specs.Properties.{property_members, property_number, property_said, property_types};
 ghost use Rattle.nugwier_report.specs.Said.{saying};
 
 use elf_abi::abi;
@@ -83,20 +81,15 @@ pub fn padded(class: Class, size: u32) -> usize
     }
 }
 
-// The number of 8 bytes after the type and the size of a property.
-fn long_number(order: AnyEndian, bytes: &[u8]) -> Option<u64>
-    ensures { result ≡ property_number (any_is_little order) 8 bytes.now }
-{
-    let mut offset = 8;
-    order.parse_u64_at(&mut offset, bytes).ok()
-}
-
 fn property_number(order: AnyEndian, size: u32, bytes: &[u8]) -> Option<u64>
     ensures { result ≡ property_number (any_is_little order) size bytes.now }
 {
     match size {
         4 => Some(number_in(order, bytes, 8)? as u64),
-        8 => long_number(order, bytes),
+        8 => {
+            let mut offset = 8;
+            order.parse_u64_at(&mut offset, bytes).ok()
+        }
         _ => None,
     }
 }
@@ -177,18 +170,6 @@ fn is_feature_type(machine: u16, kind: u32) -> bool
     }
 }
 
-fn is_level_type(machine: u16, kind: u32) -> bool
-    ensures { result ≡ is_level_type machine kind }
-{
-    is_x86(machine) && (kind == 0xc000_8002 || kind == 0xc001_0002)
-}
-
-fn is_used_type(machine: u16, kind: u32) -> bool
-    ensures { result ≡ is_used_type machine kind }
-{
-    is_x86(machine) && (kind == 0xc000_8001 || kind == 0xc001_0001)
-}
-
 // The flags in the number of a property.
 #[tactic(auto, unfolding(crate::specs::Properties::property_flags))]
 fn property_flags(machine: u16, kind: u32) -> Flags
@@ -196,9 +177,9 @@ fn property_flags(machine: u16, kind: u32) -> Flags
 {
     if is_feature_type(machine, kind) {
         feature_flags(machine)
-    } else if is_level_type(machine, kind) {
+    } else if is_x86(machine) && (kind == 0xc000_8002 || kind == 0xc001_0002) {
         X86_LEVELS
-    } else if is_used_type(machine, kind) {
+    } else if is_x86(machine) && (kind == 0xc000_8001 || kind == 0xc001_0001) {
         X86_USED
     } else {
         &[]

@@ -1,22 +1,17 @@
 //! A file in memory, which is listed without a source.
-ghost use Rattle.std.specs.Prelude.{◌≡◌, IfOk, Some, option_copied};
-ghost use Rattle.elf.specs.Answers.{first_named};
+ghost use Rattle.std.specs.Prelude.{◌≡◌, IfOk};
 ghost use Rattle.elf.specs.ElfBytes.{view};
 ghost use Rattle.elf_reading.specs.Opening.{headers_of};
 ghost use Rattle.nugwier_taking.specs.Whole.{headers_view};
 
 use crate::listed::ListedFile;
-use crate::named::has_name;
 use elf::endian::EndianParse;
-use elf::file::{Class, FileHeader};
-use elf::headers::{Headers, VersionSections};
+use elf::file::FileHeader;
+use elf::headers::{FileHeaders, HeaderList, Headers};
 use elf::reader::Reader;
 use elf::section::SectionHeader;
 use elf::segment::ProgramHeader;
-use elf::string_table::TerminatedStrings;
-use elf::walk::HeaderIterator;
-use elf::{ElfBytes, ParseError, ReadError};
-use elf_reading::versions::version_sections_of_list;
+use elf::{ElfBytes, ReadError};
 use elf_records::parse::get_bytes;
 use std::alloc::{AllocError, Global};
 
@@ -50,59 +45,21 @@ impl<'data, E: EndianParse> FileInMemory<'data, E> {
     }
 }
 
-// The first section header with a name.
-fn first_named<'a>(
-    sections: &'a [SectionHeader],
-    names: &TerminatedStrings<'_>,
-    name: &[u8],
-) -> Option<&'a SectionHeader>
-    ensures { option_copied result ≡ first_named sections.now name.now (Some names.now) }
-{
-    sections
-        .iter()
-        .find(|section| has_name(names, *section, name))
-}
-
-impl<'data, E: EndianParse> Headers for FileInMemory<'data, E> {
+impl<'data, E: EndianParse> Headers<E> for FileInMemory<'data, E> {
     ghost use Rattle.nugwier_taking.specs.Whole.{memory_file};
 
     ghost file = { memory_file E.little };
 
-    fn class(&self) -> Class {
-        self.ehdr.class
-    }
-
-    fn e_shstrndx(&self) -> u16 {
-        self.ehdr.e_shstrndx
-    }
-
-    fn declares_sections(&self) -> bool {
-        self.declares_sections
-    }
-
-    fn section_at(&self, index: usize) -> Result<SectionHeader, ParseError> {
-        self.sections
-            .get(index)
-            .copied()
-            .ok_or(ParseError::BadOffset(index as u64))
-    }
-
-    fn first_section_of(&self, sh_type: u32) -> Option<SectionHeader> {
-        self.sections
-            .iter()
-            .find(|shdr| shdr.sh_type == sh_type)
-            .copied()
-    }
-
-    fn first_segment_of(&self, p_type: u32) -> Option<ProgramHeader> {
-        self.segments
-            .iter()
-            .find(|phdr| phdr.p_type == p_type)
-            .copied()
-    }
-
-    fn version_sections(&self) -> VersionSections {
-        version_sections_of_list(&self.sections)
+    fn headers(&self) -> FileHeaders<'_, E> {
+        FileHeaders {
+            endianness: self.ehdr.endianness,
+            class: self.ehdr.class,
+            e_shstrndx: self.ehdr.e_shstrndx,
+            size: self.bytes.len() as u64,
+            declares_sections: self.declares_sections,
+            sections: HeaderList::List(self.sections.as_slice()),
+            segments: HeaderList::List(self.segments.as_slice()),
+        }
     }
 }
 
@@ -111,34 +68,6 @@ impl<'data, E: EndianParse> Reader<E> for FileInMemory<'data, E> {
     ghost use Rattle.nugwier_taking.specs.Whole.{memory_file};
 
     ghost ranges = { λ f. all_ranges (memory_file E.little f) };
-
-    fn endianness(&self) -> E {
-        self.ehdr.endianness
-    }
-
-    fn size(&self) -> u64 {
-        self.bytes.len() as u64
-    }
-
-    fn first_named(&self, names: &TerminatedStrings<'_>, name: &[u8]) -> Option<SectionHeader> {
-        first_named(self.sections.as_slice(), names, name).copied()
-    }
-
-    fn section_header(&self, index: u64) -> Option<SectionHeader> {
-        self.sections.get(index as usize).copied()
-    }
-
-    fn program_header(&self, index: u64) -> Option<ProgramHeader> {
-        self.segments.get(index as usize).copied()
-    }
-
-    fn each_section(&self) -> HeaderIterator<'_, E, SectionHeader> {
-        HeaderIterator::of_list(self.ehdr.endianness, self.sections.as_slice())
-    }
-
-    fn each_segment(&self) -> HeaderIterator<'_, E, ProgramHeader> {
-        HeaderIterator::of_list(self.ehdr.endianness, self.segments.as_slice())
-    }
 
     fn range(&self, start: u64, size: u64) -> Result<&[u8], ReadError> {
         Ok(get_bytes(self.bytes, start as usize, size as usize)?)

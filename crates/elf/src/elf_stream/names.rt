@@ -9,7 +9,7 @@ ghost use Rattle.elf.specs.Parts.{IsPlain, loaded};
 ghost use Rattle.elf.specs.Names.{headers_with_names};
 
 use super::ElfStream;
-use crate::headers::{Headers, has_name};
+use crate::headers::{Headers, first_named_in};
 use crate::read_error::{ReadError, given};
 use crate::reader;
 use elf_parts::endian::EndianParse;
@@ -18,17 +18,6 @@ use elf_parts::section::SectionHeader;
 use elf_parts::string_table::{StringTable, TerminatedStrings};
 use elf_reading::source::StreamSource;
 use std::alloc::Allocator;
-
-// The first section header with a name.
-pub(super) fn first_named_in<'a>(
-    shdrs: &'a [SectionHeader],
-    names: &TerminatedStrings<'_>,
-    name: &[u8],
-) -> Option<&'a SectionHeader>
-    ensures { option_copied result ≡ first_named shdrs.now name.now (Some names.now) }
-{
-    shdrs.iter().find(|shdr| has_name(names, name, *shdr))
-}
 
 impl<E: EndianParse, S: StreamSource, A: Allocator + Copy> ElfStream<E, S, A> {
     ghost use Rattle.std.specs.Borrow.{sem};

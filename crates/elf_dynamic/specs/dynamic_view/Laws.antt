@@ -8,12 +8,13 @@ use Rattle.elf.specs.Answers.{symbol_sections}
 use Rattle.elf.specs.ObjectFile.{Extent, FileOf, ObjectFile, Partial}
 use Rattle.elf_dynamic.specs.declared.dynamic_view.error.DynamicError.{DynamicError}
 use Rattle.elf_dynamic.specs.declared.dynamic_view.error.DynamicError.TheVariants.{Missing}
+use Rattle.elf_dynamic.specs.Linked.{linked_by}
 use Rattle.elf_dynamic.specs.dynamic_view.Entries.{dynamic_table}
 use Rattle.elf_dynamic.specs.dynamic_view.Hashes.{gnu_hash, sysv_hash}
 use Rattle.elf_dynamic.specs.dynamic_view.Relocations.{plt_relocations, relas, relr_bytes, rels}
 use Rattle.elf_dynamic.specs.dynamic_view.Segments.{bytes_from, bytes_of}
 use Rattle.elf_dynamic.specs.dynamic_view.Strings.{string_part, strings}
-use Rattle.elf_dynamic.specs.dynamic_view.Symbols.{symbol_count, symbol_part, symbols}
+use Rattle.elf_dynamic.specs.dynamic_view.Symbols.{symbol_count, symbol_part, symbols, symbols_with_strings}
 use Rattle.elf_dynamic.specs.dynamic_view.Versions.{version_definitions, version_indexes, version_needs, versions}
 
 -- ---- a part
@@ -29,11 +30,14 @@ ViewFollows is_missing whole part = FollowsBy Missing is_missing whole part
 -- so is each result
 pub record FollowsWhole (is_missing : ℕ × ℕ → Bool) (whole : ObjectFile) (part : FileOf Partial) : Type 0 where
   pub table : ViewFollows is_missing (dynamic_table whole) (dynamic_table part)
+  pub linked : ViewFollows is_missing (linked_by whole) (linked_by part)
   pub bytes_of : (a n : ℕ) → ViewFollows is_missing (bytes_of whole a n) (bytes_of part a n)
   pub bytes_from : (a : ℕ) → ViewFollows is_missing (bytes_from whole a) (bytes_from part a)
   pub strings : (es : List Dyn) → ViewFollows is_missing (strings whole es) (strings part es)
   pub symbol_count : (es : List Dyn) → ViewFollows is_missing (symbol_count whole es) (symbol_count part es)
   pub symbols : (es : List Dyn) → ViewFollows is_missing (symbols whole es) (symbols part es)
+  pub symbols_with_strings : (es : List Dyn) →
+      ViewFollows is_missing (symbols_with_strings whole es) (symbols_with_strings part es)
   pub sysv_hash : (es : List Dyn) → ViewFollows is_missing (sysv_hash whole es) (sysv_hash part es)
   pub gnu_hash : (es : List Dyn) → ViewFollows is_missing (gnu_hash whole es) (gnu_hash part es)
   pub rels : (es : List Dyn) → ViewFollows is_missing (rels whole es) (rels part es)

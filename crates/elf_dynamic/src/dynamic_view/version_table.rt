@@ -114,8 +114,9 @@ pub fn version_definitions<'f, E: EndianParse, R: Reader<E>>(
     }
 }
 
-// The version table with these indexes.
-fn versions_of<'f, E: EndianParse, R: Reader<E>>(
+/// Returns the versions of the symbols with these version indexes. The errors are those of `version_needs` and of
+/// `version_definitions`, in this order.
+pub fn versions_of<'f, E: EndianParse, R: Reader<E>>(
     file: &'f R,
     entries: &DynamicTable<'_, E>,
     indexes: VersionIndexTable<'f, E>,

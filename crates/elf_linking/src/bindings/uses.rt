@@ -1,17 +1,18 @@
 //! How the relocations of a file refer to its symbols.
-ghost use Rattle.std.specs.Prelude.{◌≡◌, map};
-ghost use Rattle.elf.specs.Answers.{relas_left, rels_left};
+ghost use Rattle.std.specs.Prelude.{◌≡◌};
 ghost use Rattle.elf.specs.ObjectFile.{Partial};
 ghost use Rattle.elf.specs.Parts.{loaded};
 ghost use Rattle.elf_records.specs.Number.{ok_map};
-ghost use Rattle.elf_linking.specs.SymbolUses.{is_dynamic, rel_parts, rela_parts, section_uses, use_added, uses_after};
+ghost use Rattle.elf_records.specs.Table.{items_left};
+ghost use Rattle.elf_linking.specs.SymbolUses.{all_parts, is_dynamic, section_uses, use_added, uses_after};
 ghost use Rattle.elf_linking.specs.SymbolUses.{uses_at, uses_by, uses_fault, with_use};
 ghost use Rattle.elf_linking.specs.declared.bindings.uses.UsesError.TheVariants.{Dynamic as IsDynamic};
 
 use crate::{ReferenceKind, reference_kind};
 use elf::endian::EndianParse;
+use elf::parse::ParsingIterator;
 use elf::reader::{Reader, section_data_as_relas, section_data_as_rels};
-use elf::relocation::{RelIterator, RelaIterator};
+use elf::relocation::Relocation;
 use elf::section::SectionHeader;
 use elf::{ParseError, ReadError, abi};
 use elf_dynamic::dynamic_view::DynamicError;
@@ -106,36 +107,20 @@ fn add_use(uses: &mut [SymbolUses], symbol: usize, kind: ReferenceKind)
     }
 }
 
-// Adds the uses of relocations without addends.
-pub(crate) fn add_rels<E: EndianParse>(
+// Adds the uses of relocations, without or with addends.
+pub(crate) fn add_each<E: EndianParse, P: Relocation>(
     machine: u16,
-    rels: RelIterator<'_, E>,
+    relocations: ParsingIterator<'_, E, P>,
     uses: &mut [SymbolUses],
 )
-    ensures { uses.new ≡ uses_after machine uses.old (map rel_parts (rels_left rels.entry)) }
+    ensures { uses.new ≡ uses_after machine uses.old (all_parts P.fields (items_left P.reads relocations.entry)) }
 {
-    for rel in rels {
+    for relocation in relocations {
+        let fields = relocation.fields();
         add_use(
             uses,
-            rel.r_sym as usize,
-            reference_kind(machine, rel.r_type),
-        );
-    }
-}
-
-// Adds the uses of relocations with addends.
-pub(crate) fn add_relas<E: EndianParse>(
-    machine: u16,
-    relas: RelaIterator<'_, E>,
-    uses: &mut [SymbolUses],
-)
-    ensures { uses.new ≡ uses_after machine uses.old (map rela_parts (relas_left relas.entry)) }
-{
-    for rela in relas {
-        add_use(
-            uses,
-            rela.r_sym as usize,
-            reference_kind(machine, rela.r_type),
+            fields.r_sym as usize,
+            reference_kind(machine, fields.r_type),
         );
     }
 }
@@ -152,10 +137,10 @@ fn add_section<E: EndianParse, R: Reader<E>>(
 {
     if section.sh_type == abi::SHT_REL {
         let rels = section_data_as_rels(file, section)?;
-        add_rels(machine, rels, uses);
+        add_each(machine, rels, uses);
     } else if section.sh_type == abi::SHT_RELA {
         let relas = section_data_as_relas(file, section)?;
-        add_relas(machine, relas, uses);
+        add_each(machine, relas, uses);
     }
     Ok(())
 }

@@ -1,18 +1,9 @@
 //! The types of relocations of AArch64: ELF for the Arm 64-bit Architecture, section "Relocation types".
-ghost use Rattle.std.specs.Prelude.{◌≡◌};
-ghost use Rattle.elf_names.specs.Table.{rows, rows_of};
-ghost use Rattle.elf_names.specs.declared.relocations.aarch64.TheConstants as names;
 
 use crate::table::Names;
 
-/// Returns the names of the types.
-pub(super) fn types() -> Names<u32>
-    ensures { rows_of result.now ≡ rows names.TYPES }
-{
-    &TYPES
-}
-
-pub static TYPES: [(u32, &str); 133] = [
+/// The types with their names.
+pub const TYPES: Names<u32> = &[
     (0, "R_AARCH64_NONE"),
     (1, "R_AARCH64_P32_ABS32"),
     (180, "R_AARCH64_P32_COPY"),

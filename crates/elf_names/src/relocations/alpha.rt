@@ -1,18 +1,9 @@
 //! The types of relocations of Alpha: the numbers of GNU.
-ghost use Rattle.std.specs.Prelude.{◌≡◌};
-ghost use Rattle.elf_names.specs.Table.{rows, rows_of};
-ghost use Rattle.elf_names.specs.declared.relocations.alpha.TheConstants as names;
 
 use crate::table::Names;
 
-/// Returns the names of the types.
-pub(super) fn types() -> Names<u32>
-    ensures { rows_of result.now ≡ rows names.TYPES }
-{
-    &TYPES
-}
-
-pub static TYPES: [(u32, &str); 33] = [
+/// The types with their names.
+pub const TYPES: Names<u32> = &[
     (0, "R_ALPHA_NONE"),
     (1, "R_ALPHA_REFLONG"),
     (2, "R_ALPHA_REFQUAD"),

@@ -1,18 +1,9 @@
 //! The types of relocations of AMD GPUs: User Guide for AMDGPU Backend of LLVM, section "Relocation Records".
-ghost use Rattle.std.specs.Prelude.{◌≡◌};
-ghost use Rattle.elf_names.specs.Table.{rows, rows_of};
-ghost use Rattle.elf_names.specs.declared.relocations.amdgpu.TheConstants as names;
 
 use crate::table::Names;
 
-/// Returns the names of the types.
-pub(super) fn types() -> Names<u32>
-    ensures { rows_of result.now ≡ rows names.TYPES }
-{
-    &TYPES
-}
-
-pub static TYPES: [(u32, &str); 14] = [
+/// The types with their names.
+pub const TYPES: Names<u32> = &[
     (0, "R_AMDGPU_NONE"),
     (1, "R_AMDGPU_ABS32_LO"),
     (2, "R_AMDGPU_ABS32_HI"),

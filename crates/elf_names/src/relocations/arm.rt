@@ -1,18 +1,9 @@
 //! The types of relocations of ARM: ELF for the Arm Architecture, section "Relocation types".
-ghost use Rattle.std.specs.Prelude.{◌≡◌};
-ghost use Rattle.elf_names.specs.Table.{rows, rows_of};
-ghost use Rattle.elf_names.specs.declared.relocations.arm.TheConstants as names;
 
 use crate::table::Names;
 
-/// Returns the names of the types.
-pub(super) fn types() -> Names<u32>
-    ensures { rows_of result.now ≡ rows names.TYPES }
-{
-    &TYPES
-}
-
-pub static TYPES: [(u32, &str); 138] = [
+/// The types with their names.
+pub const TYPES: Names<u32> = &[
     (0, "R_ARM_NONE"),
     (1, "R_ARM_PC24"),
     (2, "R_ARM_ABS32"),

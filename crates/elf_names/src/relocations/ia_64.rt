@@ -1,18 +1,9 @@
 //! The types of relocations of IA-64: Intel Itanium Processor-specific ABI, section 4.3.
-ghost use Rattle.std.specs.Prelude.{◌≡◌};
-ghost use Rattle.elf_names.specs.Table.{rows, rows_of};
-ghost use Rattle.elf_names.specs.declared.relocations.ia_64.TheConstants as names;
 
 use crate::table::Names;
 
-/// Returns the names of the types.
-pub(super) fn types() -> Names<u32>
-    ensures { rows_of result.now ≡ rows names.TYPES }
-{
-    &TYPES
-}
-
-pub static TYPES: [(u32, &str); 80] = [
+/// The types with their names.
+pub const TYPES: Names<u32> = &[
     (0, "R_IA64_NONE"),
     (33, "R_IA64_IMM14"),
     (34, "R_IA64_IMM22"),

@@ -1,18 +1,9 @@
 //! The types of relocations of MicroBlaze: the numbers of GNU.
-ghost use Rattle.std.specs.Prelude.{◌≡◌};
-ghost use Rattle.elf_names.specs.Table.{rows, rows_of};
-ghost use Rattle.elf_names.specs.declared.relocations.microblaze.TheConstants as names;
 
 use crate::table::Names;
 
-/// Returns the names of the types.
-pub(super) fn types() -> Names<u32>
-    ensures { rows_of result.now ≡ rows names.TYPES }
-{
-    &TYPES
-}
-
-pub static TYPES: [(u32, &str); 33] = [
+/// The types with their names.
+pub const TYPES: Names<u32> = &[
     (0, "R_MICROBLAZE_NONE"),
     (1, "R_MICROBLAZE_32"),
     (2, "R_MICROBLAZE_32_PCREL"),

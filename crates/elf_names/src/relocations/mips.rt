@@ -1,18 +1,9 @@
 //! The types of relocations of MIPS: System V ABI, MIPS RISC supplement, and GNU extensions.
-ghost use Rattle.std.specs.Prelude.{◌≡◌};
-ghost use Rattle.elf_names.specs.Table.{rows, rows_of};
-ghost use Rattle.elf_names.specs.declared.relocations.mips.TheConstants as names;
 
 use crate::table::Names;
 
-/// Returns the names of the types.
-pub(super) fn types() -> Names<u32>
-    ensures { rows_of result.now ≡ rows names.TYPES }
-{
-    &TYPES
-}
-
-pub static TYPES: [(u32, &str); 62] = [
+/// The types with their names.
+pub const TYPES: Names<u32> = &[
     (0, "R_MIPS_NONE"),
     (1, "R_MIPS_16"),
     (2, "R_MIPS_32"),

@@ -1,18 +1,9 @@
 //! The types of relocations of Nios II: Nios II Processor Reference Guide, chapter "Application Binary Interface", and GNU extensions.
-ghost use Rattle.std.specs.Prelude.{◌≡◌};
-ghost use Rattle.elf_names.specs.Table.{rows, rows_of};
-ghost use Rattle.elf_names.specs.declared.relocations.nios2.TheConstants as names;
 
 use crate::table::Names;
 
-/// Returns the names of the types.
-pub(super) fn types() -> Names<u32>
-    ensures { rows_of result.now ≡ rows names.TYPES }
-{
-    &TYPES
-}
-
-pub static TYPES: [(u32, &str); 60] = [
+/// The types with their names.
+pub const TYPES: Names<u32> = &[
     (0, "R_NIOS2_NONE"),
     (1, "R_NIOS2_S16"),
     (2, "R_NIOS2_U16"),

@@ -1,18 +1,9 @@
 //! The types of relocations of 64-bit PowerPC: 64-bit ELF V2 ABI specification for Power, section 3.5.
-ghost use Rattle.std.specs.Prelude.{◌≡◌};
-ghost use Rattle.elf_names.specs.Table.{rows, rows_of};
-ghost use Rattle.elf_names.specs.declared.relocations.ppc64.TheConstants as names;
 
 use crate::table::Names;
 
-/// Returns the names of the types.
-pub(super) fn types() -> Names<u32>
-    ensures { rows_of result.now ≡ rows names.TYPES }
-{
-    &TYPES
-}
-
-pub static TYPES: [(u32, &str); 161] = [
+/// The types with their names.
+pub const TYPES: Names<u32> = &[
     (0, "R_PPC64_NONE"),
     (1, "R_PPC64_ADDR32"),
     (2, "R_PPC64_ADDR24"),

@@ -1,18 +1,9 @@
 //! The types of relocations of s390 and s390x: ELF ABI s390x supplement, section "Relocation types".
-ghost use Rattle.std.specs.Prelude.{◌≡◌};
-ghost use Rattle.elf_names.specs.Table.{rows, rows_of};
-ghost use Rattle.elf_names.specs.declared.relocations.s390.TheConstants as names;
 
 use crate::table::Names;
 
-/// Returns the names of the types.
-pub(super) fn types() -> Names<u32>
-    ensures { rows_of result.now ≡ rows names.TYPES }
-{
-    &TYPES
-}
-
-pub static TYPES: [(u32, &str); 68] = [
+/// The types with their names.
+pub const TYPES: Names<u32> = &[
     (0, "R_390_NONE"),
     (1, "R_390_8"),
     (2, "R_390_12"),

@@ -1,18 +1,9 @@
 //! The types of relocations of x86-64: System V ABI, AMD64 supplement, section 4.4.
-ghost use Rattle.std.specs.Prelude.{◌≡◌};
-ghost use Rattle.elf_names.specs.Table.{rows, rows_of};
-ghost use Rattle.elf_names.specs.declared.relocations.x86_64.TheConstants as names;
 
 use crate::table::Names;
 
-/// Returns the names of the types.
-pub(super) fn types() -> Names<u32>
-    ensures { rows_of result.now ≡ rows names.TYPES }
-{
-    &TYPES
-}
-
-pub static TYPES: [(u32, &str); 45] = [
+/// The types with their names.
+pub const TYPES: Names<u32> = &[
     (0, "R_X86_64_NONE"),
     (1, "R_X86_64_64"),
     (2, "R_X86_64_PC32"),

@@ -2,6 +2,7 @@
 ghost use Rattle.std.specs.Prelude.{◌≡◌, ◌++◌, IfOk, List, OnOk, map, replicate, slice_get};
 ghost use Rattle.std.specs.List.{flat_map, zip};
 ghost use Rattle.std.specs.Option.{option_copied, option_map};
+ghost use Rattle.elf_records.specs.Number.{ok_map};
 ghost use Rattle.elf_records.specs.Table.{table_view};
 ghost use Rattle.elf_linking.specs.SymbolBindings.{AreAllBound};
 ghost use Rattle.elf_linking.specs.declared.bindings.kinds.SymbolBinding.{SymbolBinding as IsBinding};
@@ -24,7 +25,7 @@ use crate::tree::FILE;
 use elf::symbol::Symbol;
 use elf_linking::bindings::Bound;
 use elf_linking::bindings::kinds::{SymbolBinding, SymbolFault, bind_symbols, bound_symbols};
-use elf_linking::bindings::uses::{NO_USES, SymbolUses, uses_at};
+use elf_linking::bindings::uses::{NO_USES, SymbolUses, UsesError, uses_at};
 use elf_linking::dynamic::add_dynamic_uses;
 use nugwier_records::bindings::{BoundSymbol, Place, say_binding};
 use nugwier_report::problem::{Fault, Stop};
@@ -105,6 +106,15 @@ fn uses_of<W: Write, V: Write>(
     Ok(uses)
 }
 
+// Adds what the relocations of a file refer to.
+fn loaded_uses(file: &BoundFile<'_>, uses: &mut [SymbolUses]) -> Result<(), UsesError>
+    ensures { let opened = open_at file.now.path.now file.now.file.now in
+        ok_map (λ _. uses.new) result ≡ dynamic_uses opened.machine opened.file uses.old }
+{
+    let linked = file.file;
+    add_dynamic_uses(linked.ehdr.e_machine, linked, uses)
+}
+
 // Adds what the relocations of a file refer to, or says that they cannot be read.
 fn read_uses<W: Write, V: Write>(
     file: &BoundFile<'_>,
@@ -118,9 +128,7 @@ fn read_uses<W: Write, V: Write>(
         let read = dynamic_uses opened.machine opened.file uses.old in
         OnOk result (report.new ≡ saying report.old (uses_problem file.now.path.now read)) }
 {
-    let linked = file.file;
-    let machine = linked.ehdr.e_machine;
-    match add_dynamic_uses(machine, linked, uses) {
+    match loaded_uses(file, uses) {
         Ok(()) => Ok(()),
         Err(error) => {
             let path = Quoted::new(file.path);
