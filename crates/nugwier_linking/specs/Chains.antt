@@ -6,7 +6,7 @@ use Rattle.std.specs.Option.{option_map}
 use Rattle.elf.specs.ObjectFile.{ObjectFile, err_map}
 use Rattle.elf_abi.specs.declared.abi.TheConstants.{SHT_GNU_HASH, SHT_HASH}
 use Rattle.elf_dynamic.specs.declared.dynamic_view.error.DynamicError.{DynamicError}
-use Rattle.elf_dynamic.specs.dynamic_view.Entries.{dynamic_table, entries_in}
+use Rattle.elf_dynamic.specs.Linked.{Entries, Nothing, Place, Sections, linked_by}
 use Rattle.elf_dynamic.specs.dynamic_view.Hashes.{gnu_hash, sysv_hash}
 use Rattle.elf_parts.specs.GnuFind.{GnuTable, gnu_section, gnu_view}
 use Rattle.elf_parts.specs.Hash.{word_at, word_count}
@@ -160,14 +160,13 @@ entries_said file entries =
     found_entry_said (codes "DT_HASH") (sysv_entry file entries)
     ++ found_entry_said (codes "DT_GNU_HASH") (gnu_entry file entries)
 
-abbrev pub found_entries_said : ObjectFile → Result (Option Table) DynamicError → List Said
-found_entries_said file (Ok (Some table)) = entries_said file (entries_in table)
-found_entries_said file (Ok None) = []
-found_entries_said file (Err e) = wrong (whole Dynamic) (Linked e) ∷ []
-
 -- ---- of a file
 
+abbrev pub said_by : ObjectFile → Result Place DynamicError → List Said
+said_by file (Ok Sections) = flat_map (chains_of file) (sections_of file (SHT_HASH ∷ SHT_GNU_HASH ∷ []))
+said_by file (Ok (Entries entries)) = entries_said file entries
+said_by file (Ok Nothing) = []
+said_by file (Err e) = wrong (whole Dynamic) (Linked e) ∷ []
+
 abbrev pub said_of_chains : ObjectFile → List Said
-said_of_chains file =
-    if file.declares_sections then flat_map (chains_of file) (sections_of file (SHT_HASH ∷ SHT_GNU_HASH ∷ []))
-    else found_entries_said file (dynamic_table file)
+said_of_chains file = said_by file (linked_by file)

@@ -6,7 +6,7 @@ use Rattle.std.specs.Option.{option_map}
 use Rattle.std.specs.Result.{result_ok}
 use Rattle.elf_abi.specs.Values.{sht_gnu_verdef, sht_gnu_verneed}
 use Rattle.elf_dynamic.specs.declared.dynamic_view.error.DynamicError.{DynamicError}
-use Rattle.elf_dynamic.specs.dynamic_view.Entries.{dynamic_table, entries_in}
+use Rattle.elf_dynamic.specs.Linked.{Entries, Nothing, Place, Sections, linked_by}
 use Rattle.elf_dynamic.specs.dynamic_view.Versions.{version_definitions, version_needs}
 use Rattle.elf_parts.specs.gnu_symver.Lists.{ver_defs, ver_needs}
 use Rattle.elf_parts.specs.gnu_symver.Table.{Definitions, Needs}
@@ -139,13 +139,14 @@ entries_said file entries =
     found_table_said file.size true (table_versions file true entries)
     ++ found_table_said file.size false (table_versions file false entries)
 
-abbrev pub found_entries_said : ObjectFile → Result (Option Table) DynamicError → List Said
-found_entries_said file (Ok (Some table)) = entries_said file (entries_in table)
-found_entries_said file (Ok None) = []
-found_entries_said file (Err e) = wrong (whole Dynamic) (Linked e) ∷ []
+-- ---- of a file
+
+abbrev pub said_by : ObjectFile → Result Place DynamicError → List Said
+said_by file (Ok Sections) =
+    flat_map (section_versions_said file) (sections_of file (sht_gnu_verdef ∷ sht_gnu_verneed ∷ []))
+said_by file (Ok (Entries entries)) = entries_said file entries
+said_by file (Ok Nothing) = []
+said_by file (Err e) = wrong (whole Dynamic) (Linked e) ∷ []
 
 abbrev pub said_of_version_lists : ObjectFile → List Said
-said_of_version_lists file =
-    if file.declares_sections
-    then flat_map (section_versions_said file) (sections_of file (sht_gnu_verdef ∷ sht_gnu_verneed ∷ []))
-    else found_entries_said file (dynamic_table file)
+said_of_version_lists file = said_by file (linked_by file)

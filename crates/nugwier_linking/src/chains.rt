@@ -29,6 +29,7 @@ use elf::reader::Reader;
 use elf::section::SectionHeader;
 use elf::{ParseError, abi};
 use elf_dynamic::dynamic_view::DynamicError;
+use elf_dynamic::linked::LinkedBy;
 use nugwier_records::chains::{ChainCount, Chains, say_chains, say_entry_chains};
 use nugwier_report::names::label_name;
 use nugwier_report::problem::{Fault, Part, Stop};
@@ -114,13 +115,11 @@ pub fn take_chains<'f, E: EndianParse, R: ListedFile<E>>(
     ensures { IfOk result (λ parts. flat_map part_said parts.items
         ≡ said_of_chains (file_of (R.file file.now) (R.bytes file.now))) }
 {
-    if file.declares_sections() {
-        return take_sections(alloc, file);
-    }
     let mut parts = Vec::new(alloc);
-    match linked::entries(file)? {
-        Ok(Some(entries)) => add_entries(alloc, file, &entries, &mut parts)?,
-        Ok(None) => {}
+    match linked::linked_by(file)? {
+        Ok(LinkedBy::Sections) => return take_sections(alloc, file),
+        Ok(LinkedBy::Entries(entries)) => add_entries(alloc, file, &entries, &mut parts)?,
+        Ok(LinkedBy::Nothing) => {}
         Err(error) => parts.push(ChainsPart {
             place: ChainsPlace::Entry(SYSV),
             chains: Err(Fault::Linked(error)),

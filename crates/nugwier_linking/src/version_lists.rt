@@ -29,6 +29,7 @@ use elf::section::SectionHeader;
 use elf::string_table::{StringTable, TerminatedStrings};
 use elf::{ParseError, abi};
 use elf_dynamic::dynamic_view::DynamicError;
+use elf_dynamic::linked::LinkedBy;
 use nugwier_records::version_records::{VersionNames, say_definitions, say_needs};
 use nugwier_report::names::label_name;
 use nugwier_report::problem::{Fault, Part, Stop};
@@ -113,12 +114,10 @@ pub fn take_version_lists<'f, E: EndianParse, R: ListedFile<E>>(
     ensures { IfOk result (λ parts. flat_map part_said parts.items
         ≡ said_of_version_lists (file_of (R.file file.now) (R.bytes file.now))) }
 {
-    if file.declares_sections() {
-        return take_sections(alloc, file);
-    }
-    match linked::entries(file)? {
-        Ok(Some(entries)) => take_tables(alloc, file, &entries),
-        Ok(None) => Ok(Vec::new(alloc)),
+    match linked::linked_by(file)? {
+        Ok(LinkedBy::Sections) => take_sections(alloc, file),
+        Ok(LinkedBy::Entries(entries)) => take_tables(alloc, file, &entries),
+        Ok(LinkedBy::Nothing) => Ok(Vec::new(alloc)),
         Err(error) => unread(alloc, error),
     }
 }

@@ -6,9 +6,10 @@ use Rattle.std.specs.Option.{option_map}
 use Rattle.elf_abi.specs.Values.{sht_dynsym, sht_rel, sht_rela, sht_symtab}
 use Rattle.elf_dynamic.specs.Relr.{relative_addresses, relr_reads, section_data_as_relr, sht_relr}
 use Rattle.elf_dynamic.specs.declared.dynamic_view.error.DynamicError.{DynamicError}
-use Rattle.elf_dynamic.specs.dynamic_view.Entries.{dynamic_table, entries_in}
+use Rattle.elf_dynamic.specs.Linked.{Entries, Nothing, Place as LinkedPlace, Sections, linked_by}
 use Rattle.elf_dynamic.specs.dynamic_view.Relocations.{PltList, Relas, Rels, plt_relocations, relr_bytes}
 use Rattle.elf_dynamic.specs.dynamic_view.Relocations as view
+use Rattle.elf_dynamic.specs.dynamic_view.Symbols.{symbols_with_strings}
 use Rattle.elf_records.specs.Number.{ok_map}
 use Rattle.elf_records.specs.Record.{◌>>=◌}
 use Rattle.elf_records.specs.Relocation.{fields_of_rel, fields_of_rela}
@@ -24,7 +25,7 @@ use Rattle.elf.specs.Answers.{section_data_as_relas, section_data_as_rels, symbo
 use Rattle.elf.specs.ObjectFile.{ObjectFile, err_map, table_of}
 use Rattle.nugwier_taking.specs.Headings.{counted_members, known_names, row_count}
 use Rattle.nugwier_report.specs.Labels.{label_name}
-use Rattle.nugwier_taking.specs.Linked.{linked_versions, symbols_by}
+use Rattle.nugwier_taking.specs.Linked.{linked_versions}
 use Rattle.nugwier_taking.specs.Read.{fault_said, given_said, if_read}
 use Rattle.nugwier_taking.specs.TypedSections.{TypedSection, sections_of}
 use Rattle.nugwier_report.specs.Parts.{tag_name}
@@ -131,7 +132,8 @@ table_records file entries table.Plt = ok_map (option_map plt_records) (plt_relo
 
 -- the symbols that dynamic entries give
 abbrev pub linked_table : ObjectFile → List Dyn → Result (Option Symbols) Fault
-linked_table file entries = err_map Linked (ok_map (option_map (λ symbols. (symbols, true))) (symbols_by file entries))
+linked_table file entries =
+    err_map Linked (ok_map (λ symbols. Some (symbols, true)) (symbols_with_strings file entries))
 
 -- how many there are, if they can be read
 abbrev pub table_count : Result (Option Records) DynamicError → Option ℕ
@@ -154,18 +156,16 @@ table_relocations file entries t =
     let found = table_records file entries t in
     records_in_table t (table_count found) (linked_table file entries) found
 
-abbrev pub tables_by : ObjectFile → Result (Option Table) DynamicError → Result (List PlacedRelocations) DynamicError
-tables_by file (Ok (Some dynamic)) = Ok (flat_map (table_relocations file (entries_in dynamic))
-    (table.Rel ∷ table.Rela ∷ table.Relr ∷ table.Plt ∷ []))
-tables_by file (Ok None) = Ok []
-tables_by file (Err e) = Err e
-
 -- ---- of a file
 
+abbrev pub relocations_in : ObjectFile → LinkedPlace → List PlacedRelocations
+relocations_in file Sections = sections_relocations file
+relocations_in file (Entries entries) =
+    flat_map (table_relocations file entries) (table.Rel ∷ table.Rela ∷ table.Relr ∷ table.Plt ∷ [])
+relocations_in file Nothing = []
+
 abbrev pub relocations_of : ObjectFile → Result (List PlacedRelocations) DynamicError
-relocations_of file =
-    if file.declares_sections then Ok (sections_relocations file)
-    else tables_by file (dynamic_table file)
+relocations_of file = ok_map (relocations_in file) (linked_by file)
 
 -- ---- what is said of relocations
 

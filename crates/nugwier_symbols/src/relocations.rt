@@ -39,6 +39,7 @@ use elf::string_table::TerminatedStrings;
 use elf::symbol::SymbolTable;
 use elf::{ParseError, abi};
 use elf_dynamic::dynamic_view::{DynamicError, PltRelocations};
+use elf_dynamic::linked::LinkedBy;
 use elf_dynamic::relr::{RelrIterator, RelrTable, SHT_RELR};
 use elf_linking::indexed;
 use nugwier_records::relocations::{Machine, RelocationRow, Symbols, say_relative};
@@ -197,12 +198,10 @@ fn take_found<'f, E: EndianParse, R: ListedFile<E>>(
     ensures { IfOk result (λ found. ok_map (λ parts. map part_view parts.items) found
         ≡ relocations_of (file_of (R.file file.now) (R.bytes file.now))) }
 {
-    if file.declares_sections() {
-        return Ok(Ok(take_sections(alloc, file)?));
-    }
-    match linked::entries(file)? {
-        Ok(Some(entries)) => Ok(Ok(take_tables(alloc, &TABLES, file, &entries)?)),
-        Ok(None) => Ok(Ok(Vec::new(alloc))),
+    match linked::linked_by(file)? {
+        Ok(LinkedBy::Sections) => Ok(Ok(take_sections(alloc, file)?)),
+        Ok(LinkedBy::Entries(entries)) => Ok(Ok(take_tables(alloc, &TABLES, file, &entries)?)),
+        Ok(LinkedBy::Nothing) => Ok(Ok(Vec::new(alloc))),
         Err(error) => Ok(Err(error)),
     }
 }
@@ -421,7 +420,7 @@ fn linked_symbols<'f, E: EndianParse, R: ListedFile<E>>(
         ≡ linked_table (file_of (R.file file.now) (R.bytes file.now)) (entries_in (table_view entries.now))) }
 {
     match linked::symbols_by(file, entries)? {
-        Ok(Some((table, strings))) => {
+        Ok((table, strings)) => {
             let strings = TerminatedStrings::new(&strings);
             let is_dynamic = true;
             Ok(Ok(Some(TakenSymbols {
@@ -430,7 +429,6 @@ fn linked_symbols<'f, E: EndianParse, R: ListedFile<E>>(
                 is_dynamic,
             })))
         }
-        Ok(None) => Ok(Ok(None)),
         Err(error) => Ok(Err(Fault::Linked(error))),
     }
 }

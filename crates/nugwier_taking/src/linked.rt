@@ -4,19 +4,19 @@ ghost use Rattle.std.specs.Prelude.{◌≡◌, true, IfOk, None};
 ghost use Rattle.std.specs.Option.{option_map};
 ghost use Rattle.elf.specs.Answers.{relas_left, rels_left, symbols_view};
 ghost use Rattle.elf.specs.Parts.{loaded};
-ghost use Rattle.elf_dynamic.specs.dynamic_view.Entries.{dynamic_table, entries_in};
+ghost use Rattle.elf_dynamic.specs.Linked.{linked_by, place_view};
+ghost use Rattle.elf_dynamic.specs.dynamic_view.Entries.{entries_in};
 ghost use Rattle.elf_dynamic.specs.dynamic_view.Hashes.{gnu_hash, sysv_hash};
 ghost use Rattle.elf_dynamic.specs.dynamic_view.Laws.{FollowsWhole};
 ghost use Rattle.elf_dynamic.specs.dynamic_view.Relocations.{plt_left, plt_relocations, relas, relr_bytes, rels};
-ghost use Rattle.elf_dynamic.specs.dynamic_view.Strings.{strings};
-ghost use Rattle.elf_dynamic.specs.dynamic_view.Symbols.{symbols};
+ghost use Rattle.elf_dynamic.specs.dynamic_view.Symbols.{symbols_with_strings};
 ghost use Rattle.elf_dynamic.specs.dynamic_view.Versions.{version_definitions, version_needs, versions};
 ghost use Rattle.elf_parts.specs.GnuFind.{gnu_view};
 ghost use Rattle.elf_parts.specs.SysvFind.{sysv_view};
 ghost use Rattle.elf_parts.specs.gnu_symver.Table.{definitions_view, needs_view, versions_view};
 ghost use Rattle.elf_records.specs.Number.{ok_map};
 ghost use Rattle.elf_records.specs.Table.{table_view};
-ghost use Rattle.nugwier_taking.specs.Linked.{by_entries, linked_symbols, linked_versions, symbols_by};
+ghost use Rattle.nugwier_taking.specs.Linked.{linked_symbols, linked_versions, symbols_in, versions_in};
 ghost use Rattle.nugwier_taking.specs.Whole.{file_of};
 ghost use Rattle.nugwier_taking.specs.inner.Linked.{missing_of};
 
@@ -27,13 +27,11 @@ use elf::dynamic::DynamicTable;
 use elf::endian::EndianParse;
 use elf::gnu_symver::{EntriesWithStrings, SymbolVersionTable, VerDef, VerNeed};
 use elf::hash::{GnuHashTable, SysVHashTable};
-use elf::headers::Headers;
 use elf::relocation::{RelIterator, RelaIterator};
-use elf::string_table::StringTable;
-use elf::symbol::SymbolTable;
 use elf_dynamic::dynamic_view;
 use elf_dynamic::dynamic_view::laws::part_view_as_whole;
 use elf_dynamic::dynamic_view::{DynamicError, PltRelocations};
+use elf_dynamic::linked::LinkedBy;
 use nugwier_report::problem::Fault;
 
 /// The versions of the symbols for dynamic linking, if there are any.
@@ -49,14 +47,16 @@ pub fn linked_symbols<'f, E: EndianParse, R: ListedFile<E>>(
     ensures { IfOk result (λ found. ok_map (option_map symbols_view) found
         ≡ linked_symbols (file_of (R.file file.now) (R.bytes file.now))) }
 {
-    if file.declares_sections() {
-        return match taking::dynamic_symbols(file)? {
+    match linked_by(file)? {
+        Ok(LinkedBy::Sections) => match taking::dynamic_symbols(file)? {
             Ok(symbols) => Ok(Ok(symbols)),
             Err(error) => Ok(Err(Fault::Read(error))),
-        };
-    }
-    match symbols_by_segments(file)? {
-        Ok(symbols) => Ok(Ok(symbols)),
+        },
+        Ok(LinkedBy::Entries(table)) => match symbols_by(file, &table)? {
+            Ok(symbols) => Ok(Ok(Some(symbols))),
+            Err(error) => Ok(Err(Fault::Linked(error))),
+        },
+        Ok(LinkedBy::Nothing) => Ok(Ok(None)),
         Err(error) => Ok(Err(Fault::Linked(error))),
     }
 }
@@ -68,61 +68,17 @@ pub fn linked_versions<'f, E: EndianParse, R: ListedFile<E>>(
     ensures { IfOk result (λ found. ok_map (option_map versions_view) found
         ≡ linked_versions (file_of (R.file file.now) (R.bytes file.now))) }
 {
-    if file.declares_sections() {
-        return match taking::versions(file)? {
+    match linked_by(file)? {
+        Ok(LinkedBy::Sections) => match taking::versions(file)? {
             Ok(versions) => Ok(Ok(versions)),
             Err(error) => Ok(Err(Fault::Read(error))),
-        };
-    }
-    match versions_by_segments(file)? {
-        Ok(versions) => Ok(Ok(versions)),
+        },
+        Ok(LinkedBy::Entries(table)) => match versions(file, &table)? {
+            Ok(versions) => Ok(Ok(versions)),
+            Err(error) => Ok(Err(Fault::Linked(error))),
+        },
+        Ok(LinkedBy::Nothing) => Ok(Ok(None)),
         Err(error) => Ok(Err(Fault::Linked(error))),
-    }
-}
-
-fn symbols_by_segments<'f, E: EndianParse, R: ListedFile<E>>(
-    file: &'f R,
-) -> Result<View<Option<Symbols<'f, E>>>, NotTaken>
-    ensures { let whole = file_of (R.file file.now) (R.bytes file.now) in
-        IfOk result (λ found. ok_map (option_map symbols_view) found
-        ≡ by_entries (symbols_by whole) (dynamic_table whole)) }
-{
-    match entries(file)? {
-        Ok(Some(table)) => symbols_by(file, &table),
-        Ok(None) => Ok(Ok(None)),
-        Err(error) => Ok(Err(error)),
-    }
-}
-
-fn versions_by_segments<'f, E: EndianParse, R: ListedFile<E>>(
-    file: &'f R,
-) -> Result<View<Option<SymbolVersionTable<'f, E>>>, NotTaken>
-    ensures { let whole = file_of (R.file file.now) (R.bytes file.now) in
-        IfOk result (λ found. ok_map (option_map versions_view) found
-        ≡ by_entries (versions whole) (dynamic_table whole)) }
-{
-    match entries(file)? {
-        Ok(Some(table)) => versions(file, &table),
-        Ok(None) => Ok(Ok(None)),
-        Err(error) => Ok(Err(error)),
-    }
-}
-
-/// Takes the symbols that dynamic entries give, and their strings.
-pub fn symbols_by<'f, E: EndianParse, R: ListedFile<E>>(
-    file: &'f R,
-    table: &DynamicTable<'_, E>,
-) -> Result<View<Option<Symbols<'f, E>>>, NotTaken>
-    ensures { IfOk result (λ found. ok_map (option_map symbols_view) found
-        ≡ symbols_by (file_of (R.file file.now) (R.bytes file.now)) (entries_in (table_view table.now))) }
-{
-    let symbols = match symbols(file, table)? {
-        Ok(symbols) => symbols,
-        Err(error) => return Ok(Err(error)),
-    };
-    match strings(file, table)? {
-        Ok(strings) => Ok(Ok(Some((symbols, StringTable::new(strings))))),
-        Err(error) => Ok(Err(error)),
     }
 }
 
@@ -149,37 +105,27 @@ fn taken<T>(read: View<T>) -> Result<View<T>, NotTaken>
     }
 }
 
-/// Takes the dynamic entries of the segment of type `PT_DYNAMIC`.
-pub fn entries<'f, E: EndianParse, R: ListedFile<E>>(
+/// Takes what says where a file has what is linked: its section headers, or if it declares none its dynamic entries.
+pub fn linked_by<'f, E: EndianParse, R: ListedFile<E>>(
     file: &'f R,
-) -> Result<View<Option<DynamicTable<'f, E>>>, NotTaken>
-    ensures { IfOk result (λ found. ok_map (option_map table_view) found
-        ≡ dynamic_table (file_of (R.file file.now) (R.bytes file.now))) }
+) -> Result<View<LinkedBy<'f, E>>, NotTaken>
+    ensures { IfOk result (λ found. ok_map place_view found
+        ≡ linked_by (file_of (R.file file.now) (R.bytes file.now))) }
 {
     is_part(file);
-    taken(dynamic_view::dynamic_table(file))
+    taken(elf_dynamic::linked::linked_by(file))
 }
 
-fn symbols<'f, E: EndianParse, R: ListedFile<E>>(
+/// Takes the symbols that dynamic entries give, and their strings.
+pub fn symbols_by<'f, E: EndianParse, R: ListedFile<E>>(
     file: &'f R,
     table: &DynamicTable<'_, E>,
-) -> Result<View<SymbolTable<'f, E>>, NotTaken>
-    ensures { IfOk result (λ found. ok_map table_view found
-        ≡ symbols (file_of (R.file file.now) (R.bytes file.now)) (entries_in (table_view table.now))) }
+) -> Result<View<Symbols<'f, E>>, NotTaken>
+    ensures { IfOk result (λ found. ok_map symbols_view found
+        ≡ symbols_with_strings (file_of (R.file file.now) (R.bytes file.now)) (entries_in (table_view table.now))) }
 {
     is_part(file);
-    taken(dynamic_view::symbols(file, table))
-}
-
-fn strings<'f, E: EndianParse, R: ListedFile<E>>(
-    file: &'f R,
-    table: &DynamicTable<'_, E>,
-) -> Result<View<&'f [u8]>, NotTaken>
-    ensures { IfOk result (λ found. ok_map (λ bytes. bytes.now) found
-        ≡ strings (file_of (R.file file.now) (R.bytes file.now)) (entries_in (table_view table.now))) }
-{
-    is_part(file);
-    taken(dynamic_view::strings(file, table))
+    taken(dynamic_view::symbols_with_strings(file, table))
 }
 
 fn versions<'f, E: EndianParse, R: ListedFile<E>>(

@@ -1,5 +1,0 @@
-use Rattle.nugwier_taking.proofs.Viewed.{viewed_whole}
-use Rattle.nugwier_taking.proofs.linked.entries.Goals as goal
-
-pub returns : goal.returns
-returns g c = viewed_whole _ _ _ _ _ c.dynamic_table.ensures.value c.taken.ensures.found c.taken.ensures.no_missing (c.is_part.ensures.table)
