@@ -94,3 +94,22 @@ pub missing_as : (known : Known) (IsSaid : Saying) (path : List ℕ) (error : Er
     → IfSome known (λ files. files.contents path ≡ None) → IsProblemSaid (System error) named said → IsSaidAt known IsSaid path named said
 missing_as None IsSaid path error named said is h = tt
 missing_as (Some files) IsSaid path error named said is h = subst (λ (content : Option (List ℕ)). IsFoundSaid IsSaid content named said) (sym is) (error, h)
+
+-- by other words
+found_as : (content : Option (List ℕ)) (IsSaid Others : Saying) (named : Named) (said : List Said) → ((bytes : List ℕ) → IsSaid bytes named said → Others bytes named said)
+    → IsFoundSaid IsSaid content named said → IsFoundSaid Others content named said
+found_as (Some bytes) IsSaid Others named said lift h = lift bytes h
+found_as None IsSaid Others named said lift h = h
+
+pub said_as : (known : Known) (path : List ℕ) (IsSaid Others : Saying) (named : Named) (said : List Said) → ((bytes : List ℕ) → IsSaid bytes named said → Others bytes named said)
+    → IsSaidAt known IsSaid path named said → IsSaidAt known Others path named said
+said_as None path IsSaid Others named said lift h = tt
+said_as (Some files) path IsSaid Others named said lift h = found_as (files.contents path) IsSaid Others named said lift h
+
+-- of a file that was opened at its path
+pub source_said : (known : Known) (IsSaid : Saying) (path : List ℕ) (content : Option (List ℕ)) (named : Named) (said : List Said)
+    → IfSome known (λ files. (bytes : List ℕ) × (files.contents path ≡ Some bytes) × (content ≡ Some bytes)) → IfSome content (λ bytes. IsSaid bytes named said)
+    → IsSaidAt known IsSaid path named said
+source_said None IsSaid path content named said opened h = tt
+source_said (Some files) IsSaid path content named said (bytes, there, same) h =
+    subst (λ (found : Option (List ℕ)). IsFoundSaid IsSaid found named said) (sym there) (subst (λ (found : Option (List ℕ)). IfSome found (λ b. IsSaid b named said)) same h)

@@ -1,16 +1,21 @@
 -- What is said of a file that opens, and of one that does not.
-use Rattle.std.proofs.Common.{◌≡◌, ℕ, List, Result, Ok, Err, None, sym, subst}
-use Rattle.elf_reading.specs.Opening.{FileView}
+use Rattle.std.proofs.Common.{◌≡◌, ℕ, Bool, List, Option, Result, Ok, Err, None, OnOk, sym, subst}
+use Rattle.elf.specs.StreamFile.{listed_file}
+use Rattle.elf_reading.specs.Opening.{FileView, StreamHeaders}
 use Rattle.elf_records.specs.declared.endian.AnyEndian.{AnyEndian}
 use Rattle.elf_records.specs.declared.parse.ParseError.{ParseError}
-use Rattle.nugwier_commands.specs.Run.{IsOpenedSaid, IsProblemSaid, IsUnopenedSaid, IsViewSaid}
-use Rattle.nugwier_commands.specs.inner.Loading.{IsSaidAfter}
+use Rattle.nugwier_commands.specs.Run.{IsFileSaid, IsOne, IsOpenedSaid, IsProblemSaid, IsUnopenedSaid, IsViewSaid}
+use Rattle.nugwier_commands.specs.declared.target.LostHeaders.{LostHeaders}
+use Rattle.nugwier_commands.specs.inner.Loading.{AreTold, IsSaidAfter}
 use Rattle.nugwier_report.specs.Labels.{Named}
-use Rattle.nugwier_report.specs.Said.{Said}
+use Rattle.nugwier_report.specs.Said.{Line, Said}
+use Rattle.nugwier_taking.specs.Whole.{headers_view, memory_file}
+use Rattle.nugwier_taking.specs.declared.in_memory.FileInMemory.{FileInMemory}
 use Rattle.nugwier_report.specs.declared.problem.Fault.TheVariants.{Read}
 use Rattle.nugwier_words.specs.Words.{Task}
 use Rattle.nugwier_words.specs.declared.words.Command.{Command}
 use Rattle.nugwier_words.specs.declared.words.Command.TheVariants.{Check}
+use Rattle.nugwier_writing.specs.declared.kind.Kind.{Kind}
 
 module _ (task : Task) (path bytes : List ℕ) (error : ParseError) (named : Named) (said : List Said) where
   -- if it is checked
@@ -33,3 +38,12 @@ pub opened_said : (task : Task) (path bytes : List ℕ) (named : Named) (said : 
 opened_said task path bytes named said view opened is h =
     subst (λ (o : Result (FileView AnyEndian) ParseError). IsOpenedSaid task path bytes o named said) is
     (subst (λ (s : List Said). IsViewSaid task path bytes view named s) (sym h.2) h.1)
+
+-- what was told of a file in memory was told of the file that was opened over its bytes
+pub memory_told : {E R X F : Type 0} (little : E → Bool) (of_byte : ℕ → Option E) (one : R → Line → R) (task : Task) (heading : Option Kind) (path : List ℕ) (lost : Option LostHeaders) (made : FileInMemory E)
+    (headers : StreamHeaders E) (bytes : List ℕ) (r : Result X F) (before after : R) → headers_view made ≡ headers → made.bytes.now ≡ bytes
+    → OnOk r (AreTold one (IsOne heading path (IsSaidAfter lost (IsFileSaid little of_byte task path made.ehdr (memory_file little made)))) before after)
+    → OnOk r (AreTold one (IsOne heading path (IsSaidAfter lost (IsFileSaid little of_byte task path headers.ehdr (listed_file little headers bytes)))) before after)
+memory_told {E = E} little of_byte one task heading path lost made headers bytes r before after is same told =
+    subst (λ (h : StreamHeaders E). OnOk r (AreTold one (IsOne heading path (IsSaidAfter lost (IsFileSaid little of_byte task path h.ehdr (listed_file little h bytes)))) before after)) is
+    (subst (λ (b : List ℕ). OnOk r (AreTold one (IsOne heading path (IsSaidAfter lost (IsFileSaid little of_byte task path made.ehdr (listed_file little (headers_view made) b)))) before after)) same told)

@@ -1,27 +1,26 @@
 //! An archive: each of its members is told as a file.
-ghost use Rattle.std.specs.Prelude.{◌≡◌, IfOk, Ok, string_bytes};
+#![tactic(auto, using(nugwier_report::proofs::Saying::saying_both))]
+
+ghost use Rattle.std.specs.Prelude.{◌≡◌, IfOk, Ok, OnOk, string_bytes};
 ghost use Rattle.std.specs.Str.{is_utf8};
 ghost use Rattle.elf_archive.specs.Archive.{item_view, member_view, members_left};
-ghost use Rattle.nugwier_commands.specs.Run.{AreItemsSaid, AreMembersSaid, IsBytesSaid, IsElfSaid, IsHeldSaid};
+ghost use Rattle.nugwier_commands.specs.Run.{AreItemsSaid, AreMembersSaid, IsBytesSaid, IsElfSaid, IsHeldSaid, IsOne};
 ghost use Rattle.nugwier_commands.specs.Run.{IsOutsideSaid, IsProblemSaid, IsSaidAt, broken, first_heading};
 ghost use Rattle.nugwier_commands.specs.Run.{is_archive, member_path, next_heading};
 ghost use Rattle.nugwier_commands.specs.Run.{outside_path};
-ghost use Rattle.nugwier_commands.specs.inner.Loading.{AreSaidAndWritten, IsItemEnded, IsSaidAndWritten};
+ghost use Rattle.nugwier_commands.specs.inner.Loading.{AreTold, IsOneItem};
 ghost use Rattle.nugwier_words.specs.Words.{task_of};
 
-use crate::ended::{Ended, Target};
-use crate::loading::stopped;
 use crate::run::run_slice;
+use crate::target::Target;
 use elf_archive::archive::{ArchiveError, Member, Members, members_of, thinness};
 use nugwier_files::files::Files;
-use nugwier_report::problem::Fault;
+use nugwier_report::problem::{Fault, Stop};
 use nugwier_report::quoted::Quoted;
-use nugwier_report::report::Summary;
+use nugwier_report::run::Run;
 use nugwier_words::words::{Command, Job};
 use nugwier_writing::kind::Kind;
 use std::alloc::{AllocError, Global};
-use std::io;
-use std::io::Write;
 use std::path::Path;
 use std::str::from_utf8;
 
@@ -35,18 +34,16 @@ pub(crate) fn is_archive(job: &Job<'_>, front: &[u8]) -> bool
     }
 }
 
-/// Says of the members of the archive with these bytes what is asked for.
-pub(crate) fn run_archive<F: Files, W: Write, V: Write>(
+/// Tells of the members of the archive with these bytes what is asked for.
+pub(crate) fn run_archive<F: Files, R: Run>(
     alloc: Global,
     target: Target<'_>,
     files: &F,
     bytes: &[u8],
-    out: W,
-    err: V,
-) -> Ended<W, V>
-    ensures { let task = task_of target.entry.job.now in AreSaidAndWritten W.contents V.contents
-        (AreMembersSaid (F.known files.now) task target.entry.heading target.entry.path.now bytes.now)
-        task (record { out = W.contents out; err = V.contents err }) result }
+    run: &mut R,
+) -> Result<(), Stop>
+    ensures { OnOk result (AreTold R.one (AreMembersSaid (F.known files.now) (task_of target.entry.job.now)
+        target.entry.heading target.entry.path.now bytes.now) run.old run.new) }
 {
     let target = Target {
         job: target.job,
@@ -54,8 +51,8 @@ pub(crate) fn run_archive<F: Files, W: Write, V: Write>(
         heading: first_heading(target.job.command, target.heading),
     };
     match members_of(bytes) {
-        Ok(members) => run_members(alloc, target, files, members, out, err),
-        Err(error) => say_broken(alloc, target, error, out, err),
+        Ok(members) => run_members(alloc, target, files, members, run),
+        Err(error) => tell_broken(alloc, target, error, run),
     }
 }
 
@@ -80,20 +77,16 @@ pub(crate) fn next_heading(heading: Option<Kind>) -> Option<Kind>
     }
 }
 
-fn run_members<F: Files, W: Write, V: Write>(
+fn run_members<F: Files, R: Run>(
     alloc: Global,
     target: Target<'_>,
     files: &F,
     mut members: Members<'_>,
-    mut out: W,
-    mut err: V,
-) -> Ended<W, V>
-    ensures { let task = task_of target.entry.job.now in AreSaidAndWritten W.contents V.contents
-        (AreItemsSaid (F.known files.now) task target.entry.heading target.entry.path.now (members_left members.entry))
-        task (record { out = W.contents out; err = V.contents err }) result }
+    run: &mut R,
+) -> Result<(), Stop>
+    ensures { OnOk result (AreTold R.one (AreItemsSaid (F.known files.now) (task_of target.entry.job.now)
+        target.entry.heading target.entry.path.now (members_left members.entry)) run.old run.new) }
 {
-    let mut are_right = true;
-    let mut are_told = true;
     let mut heading = target.heading;
     while let Some(item) = members.next() {
         let target = Target {
@@ -101,88 +94,61 @@ fn run_members<F: Files, W: Write, V: Write>(
             path: target.path,
             heading,
         };
-        let ended = run_item(alloc, target, files, item, out, err);
-        out = ended.out;
-        err = ended.err;
-        match ended.said {
-            Ok(summary) => {
-                are_right &= summary.is_right;
-                are_told &= summary.is_told;
-            }
-            said => return Ended { said, out, err },
-        }
+        run_item(alloc, target, files, item, run)?;
         heading = next_heading(heading);
     }
-    let said = Ok(Summary {
-        is_right: are_right,
-        is_told: are_told,
-    });
-    Ended { said, out, err }
+    Ok(())
 }
 
-fn run_item<F: Files, W: Write, V: Write>(
+fn run_item<F: Files, R: Run>(
     alloc: Global,
     target: Target<'_>,
     files: &F,
     item: Result<Member<'_>, ArchiveError>,
-    out: W,
-    err: V,
-) -> Ended<W, V>
-    ensures { IsItemEnded W.contents V.contents (F.known files.now) (task_of target.entry.job.now) target.entry.heading
-        target.entry.path.now (item_view item.entry) (record { out = W.contents out; err = V.contents err }) result }
+    run: &mut R,
+) -> Result<(), Stop>
+    ensures { OnOk result (AreTold R.one (IsOneItem (F.known files.now) (task_of target.entry.job.now)
+        target.entry.heading target.entry.path.now (item_view item.entry)) run.old run.new) }
 {
     match item {
-        Ok(member) => run_member(alloc, target, files, member, out, err),
-        Err(error) => say_broken(alloc, target, error, out, err),
+        Ok(member) => run_member(alloc, target, files, member, run),
+        Err(error) => tell_broken(alloc, target, error, run),
     }
 }
 
 // The archive cannot be read on.
-fn say_broken<W: Write, V: Write>(
+fn tell_broken<R: Run>(
     alloc: Global,
     target: Target<'_>,
     error: ArchiveError,
-    out: W,
-    err: V,
-) -> Ended<W, V>
-    ensures { IsSaidAndWritten W.contents V.contents (IsProblemSaid (broken error))
-        (task_of target.entry.job.now) target.entry.heading target.entry.path.now
-        (record { out = W.contents out; err = V.contents err }) result }
+    run: &mut R,
+) -> Result<(), Stop>
+    ensures { OnOk result (AreTold R.one (IsOne target.entry.heading target.entry.path.now
+        (IsProblemSaid (broken error))) run.old run.new) }
 {
-    match format!(in alloc; "a broken ar archive: {error}") {
-        Ok(text) => {
-            let name = Quoted::new(text.as_bytes());
-            target.say_problem(alloc, Fault::OtherFormat(name), out, err)
-        }
-        Err(_) => stopped(out, err),
-    }
+    let text = format!(in alloc; "a broken ar archive: {error}")?;
+    target.tell_problem(Fault::OtherFormat(Quoted::new(text.as_bytes())), run)
 }
 
-// Says of a member what is asked for, with its own path.
-fn run_member<F: Files, W: Write, V: Write>(
+// Tells of a member what is asked for, with its own path.
+fn run_member<F: Files, R: Run>(
     alloc: Global,
     target: Target<'_>,
     files: &F,
     member: Member<'_>,
-    out: W,
-    err: V,
-) -> Ended<W, V>
-    ensures { IsItemEnded W.contents V.contents (F.known files.now) (task_of target.entry.job.now) target.entry.heading
-        target.entry.path.now (Ok (member_view member.entry))
-        (record { out = W.contents out; err = V.contents err }) result }
+    run: &mut R,
+) -> Result<(), Stop>
+    ensures { OnOk result (AreTold R.one (IsOneItem (F.known files.now) (task_of target.entry.job.now)
+        target.entry.heading target.entry.path.now (Ok (member_view member.entry))) run.old run.new) }
 {
-    match member_path(alloc, target.path, &member) {
-        Ok(path) => {
-            let archive = target.path;
-            let target = Target {
-                job: target.job,
-                path: path.as_str(),
-                heading: target.heading,
-            };
-            run_held(alloc, target, files, archive, &member, out, err)
-        }
-        Err(AllocError) => stopped(out, err),
-    }
+    let archive = target.path;
+    let path = member_path(alloc, archive, &member)?;
+    let target = Target {
+        job: target.job,
+        path: path.as_str(),
+        heading: target.heading,
+    };
+    run_held(alloc, target, files, archive, &member, run)
 }
 
 // The path of a member: the archive's, and its name or its offset.
@@ -198,72 +164,62 @@ fn member_path(alloc: Global, archive: &str, member: &Member<'_>) -> Result<Stri
     }
 }
 
-// Says of a member of the archive at a path, by its own path, what is asked for.
-fn run_held<F: Files, W: Write, V: Write>(
+// Tells of a member of the archive at a path, by its own path, what is asked for.
+fn run_held<F: Files, R: Run>(
     alloc: Global,
     target: Target<'_>,
     files: &F,
     archive: &str,
     member: &Member<'_>,
-    out: W,
-    err: V,
-) -> Ended<W, V>
+    run: &mut R,
+) -> Result<(), Stop>
     ensures { let task = task_of target.entry.job.now in let member = member_view member.now in
-        IsSaidAndWritten W.contents V.contents (IsHeldSaid (F.known files.now)
-        (IsElfSaid (IsBytesSaid task target.entry.path.now)) archive.now member member.bytes)
-        task target.entry.heading target.entry.path.now (record { out = W.contents out; err = V.contents err }) result }
+        OnOk result (AreTold R.one (IsOne target.entry.heading target.entry.path.now (IsHeldSaid (F.known files.now)
+        (IsElfSaid (IsBytesSaid task target.entry.path.now)) archive.now member member.bytes)) run.old run.new) }
 {
     match member.bytes {
-        Some(bytes) => run_slice(alloc, target, bytes, out, err),
-        None => run_outside(alloc, target, files, archive, member.name, out, err),
+        Some(bytes) => run_slice(alloc, target, bytes, run),
+        None => run_outside(alloc, target, files, archive, member.name, run),
     }
 }
 
 // The same of a member of a thin archive, which is a file.
-fn run_outside<F: Files, W: Write, V: Write>(
+fn run_outside<F: Files, R: Run>(
     alloc: Global,
     target: Target<'_>,
     files: &F,
     archive: &str,
     name: &[u8],
-    out: W,
-    err: V,
-) -> Ended<W, V>
-    ensures { let task = task_of target.entry.job.now in IsSaidAndWritten W.contents V.contents
-        (IsOutsideSaid (F.known files.now)
-        (IsElfSaid (IsBytesSaid task target.entry.path.now)) archive.now name.now (is_utf8 name.now))
-        task target.entry.heading target.entry.path.now (record { out = W.contents out; err = V.contents err }) result }
+    run: &mut R,
+) -> Result<(), Stop>
+    ensures { let task = task_of target.entry.job.now in
+        OnOk result (AreTold R.one (IsOne target.entry.heading target.entry.path.now (IsOutsideSaid (F.known files.now)
+        (IsElfSaid (IsBytesSaid task target.entry.path.now)) archive.now name.now (is_utf8 name.now)))
+        run.old run.new) }
 {
     let Ok(name) = from_utf8(name) else {
         let name = Quoted::new(b"a path that is not UTF-8");
-        return target.say_problem(alloc, Fault::OtherFormat(name), out, err);
+        return target.tell_problem(Fault::OtherFormat(name), run);
     };
-    match outside_path(alloc, archive, name) {
-        Ok(path) => run_elsewhere(alloc, target, files, path.as_str(), out, err),
-        Err(AllocError) => stopped(out, err),
-    }
+    let path = outside_path(alloc, archive, name)?;
+    run_elsewhere(alloc, target, files, path.as_str(), run)
 }
 
 // The same of the file at a path.
-fn run_elsewhere<F: Files, W: Write, V: Write>(
+fn run_elsewhere<F: Files, R: Run>(
     alloc: Global,
     target: Target<'_>,
     files: &F,
     path: &str,
-    out: W,
-    err: V,
-) -> Ended<W, V>
-    ensures { let task = task_of target.entry.job.now in IsSaidAndWritten W.contents V.contents
-        (IsSaidAt (F.known files.now)
-        (IsElfSaid (IsBytesSaid task target.entry.path.now)) path.now)
-        task target.entry.heading target.entry.path.now (record { out = W.contents out; err = V.contents err }) result }
+    run: &mut R,
+) -> Result<(), Stop>
+    ensures { let task = task_of target.entry.job.now in
+        OnOk result (AreTold R.one (IsOne target.entry.heading target.entry.path.now (IsSaidAt (F.known files.now)
+        (IsElfSaid (IsBytesSaid task target.entry.path.now)) path.now)) run.old run.new) }
 {
     match files.read(path) {
-        Ok(data) => run_slice(alloc, target, data.as_slice(), out, err),
-        Err(error) => match error.kind() {
-            io::ErrorKind::OutOfMemory => stopped(out, err),
-            _ => target.say_problem(alloc, Fault::System(error), out, err),
-        },
+        Ok(data) => run_slice(alloc, target, data.as_slice(), run),
+        Err(error) => target.tell_unread(error, run),
     }
 }
 

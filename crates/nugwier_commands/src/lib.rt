@@ -3,9 +3,10 @@
 #![tactic(auto)]
 
 mod archive;
-mod ended;
 mod loading;
 mod places;
 mod preloading;
 pub mod run;
+mod sheet;
+mod target;
 mod walk;

@@ -1,154 +1,96 @@
-//! A source is read by parts: what a job needs is taken of what is loaded, and where a range is missing, that range is
-//! loaded and the taking begins again. So nothing is written before all is taken. Of a file in memory all is loaded.
-ghost use Rattle.std.specs.Prelude.{◌≡◌, ℕ, IfOk, List};
-ghost use Rattle.elf.specs.ElfBytes.{view};
-ghost use Rattle.elf.specs.StreamFile.{listed_file};
-ghost use Rattle.elf_reading.specs.Opening.{headers_of};
-ghost use Rattle.nugwier_commands.specs.Run.{IsFileSaid, named_of};
-ghost use Rattle.nugwier_commands.specs.inner.Loading.{IsSaidAfter, IsSaidAndWritten, IsSourceListed, IsStreamListed};
-ghost use Rattle.nugwier_listing.specs.Job.{IsSaidOf};
-ghost use Rattle.nugwier_taking.specs.Whole.{file_of};
-ghost use Rattle.nugwier_listing.specs.inner.Job.{IsTablesSaid};
-ghost use Rattle.nugwier_report.specs.Labels.{named_by};
-ghost use Rattle.nugwier_report.specs.Said.{Said};
+//! A source is read by parts: a walk with a silent teller finds a range that is missing, that range is loaded, and the
+//! walk begins again. So nothing is written before all is there.
+#![tactic(auto, using(nugwier_report::proofs::Saying::saying_both))]
+
+ghost use Rattle.std.specs.Prelude.{◌≡◌, IfOk, IfSome};
+ghost use Rattle.elf.specs.ElfStream.{Keeps};
+ghost use Rattle.elf.specs.StreamFile.{stream_file};
+ghost use Rattle.nugwier_commands.specs.Run.{IsBytesSaid, IsFileSaid, IsOne};
+ghost use Rattle.nugwier_commands.specs.inner.Loading.{IsTried};
 ghost use Rattle.nugwier_words.specs.Words.{task_of};
 
-use crate::ended::{Ended, LostHeaders, Target};
 use crate::preloading::preload;
+use crate::target::Target;
 use elf::endian::{AnyEndian, EndianParse};
-use elf::{ElfBytes, ElfStream, ParseError, StreamSource};
-use nugwier_listing::job::{JobTables, take_job};
-use nugwier_listing::labels::take_labels;
-use nugwier_report::names::Labels;
+use elf::{ElfStream, StreamSource};
+use nugwier_listing::job::tell_job;
+use nugwier_listing::labels::labels_of;
 use nugwier_report::problem::Stop;
-use nugwier_taking::in_memory::FileInMemory;
+use nugwier_report::run::Run;
+use nugwier_report::tell::Silent;
 use nugwier_taking::listed::ListedFile;
-use nugwier_taking::taking::{NotTaken, whole_is_content};
-use nugwier_words::words::Job;
-use std::alloc::{AllocError, Global};
-use std::io::Write;
+use nugwier_taking::taking::whole_is_content;
+use std::alloc::Global;
 
-/// What became of a source: something was said of it; or it cannot be read, and nothing was said yet.
-#[derive(Drop)]
-pub(crate) enum Listed<W: Write, V: Write> {
-    Said(Ended<W, V>),
-    Unread(ParseError, W, V),
-}
-
-/// Lists the file of a source.
-pub(crate) fn list_source<S: StreamSource, W: Write, V: Write>(
+/// Tells what is asked for of the file of a source. Returns whether it was told: of a source that cannot be read by
+/// parts nothing was.
+pub(crate) fn tell_source<S: StreamSource, R: Run>(
     alloc: Global,
     target: Target<'_>,
     source: S,
-    out: W,
-    err: V,
-) -> Listed<W, V>
-    ensures { IsSourceListed W.contents V.contents (task_of target.entry.job.now) target.entry.heading
-        target.entry.path.now (S.content source) (record { out = W.contents out; err = V.contents err }) result }
+    run: &mut R,
+) -> Result<bool, Stop>
+    ensures { IfOk result (IsTried R.one (IsOne target.entry.heading target.entry.path.now (λ named said.
+        IfSome (S.content source) (λ bytes. IsBytesSaid (task_of target.entry.job.now) target.entry.path.now bytes named
+        said))) run.old run.new) }
 {
     match ElfStream::<AnyEndian, S, Global>::open_stream(alloc, source) {
-        Ok(mut stream) => list_stream(alloc, target, &mut stream, out, err),
-        Err(error) => Listed::Unread(error, out, err),
+        Ok(mut stream) => tell_stream(alloc, target, &mut stream, run),
+        Err(_) => Ok(false),
     }
 }
 
-// Lists an opened file.
-fn list_stream<E: EndianParse, S: StreamSource, W: Write, V: Write>(
+// The same of an opened file.
+fn tell_stream<E: EndianParse, S: StreamSource, R: Run>(
     alloc: Global,
     target: Target<'_>,
     stream: &mut ElfStream<E, S, Global>,
-    out: W,
-    err: V,
-) -> Listed<W, V>
-    ensures { IsStreamListed W.contents V.contents E.little E.of_byte (task_of target.entry.job.now)
-        target.entry.heading target.entry.path.now stream.old (record { out = W.contents out; err = V.contents err })
-        result }
+    run: &mut R,
+) -> Result<bool, Stop>
+    ensures { IfOk result (IsTried R.one (IsOne target.entry.heading target.entry.path.now (λ named said.
+        IfSome stream.old.content (λ bytes. IsFileSaid E.little E.of_byte (task_of target.entry.job.now)
+        target.entry.path.now stream.old.headers.ehdr (stream_file E.little stream.old bytes) named said)))
+        run.old run.new) }
 {
-    if let Err(error) = preload(alloc, target.job, stream) {
-        return Listed::Unread(error, out, err);
+    if !load_missing(alloc, target, stream)? {
+        return Ok(false);
     }
+    whole_is_content(stream);
+    target.tell_file(alloc, None, &*stream, run)?;
+    Ok(true)
+}
+
+// Loads what is asked for of a file. Returns whether all of it can be loaded.
+fn load_missing<E: EndianParse, S: StreamSource>(
+    alloc: Global,
+    target: Target<'_>,
+    stream: &mut ElfStream<E, S, Global>,
+) -> Result<bool, Stop>
+    ensures { Keeps stream.old stream.new }
+{
+    if preload(alloc, target.job, stream).is_err() {
+        return Ok(false);
+    }
+    // Each round loads a range that was missing, and no source has that many.
     'rounds: for _ in 0..u64::MAX {
-        whole_is_content(stream);
-        let range = match take_all(alloc, target.job, &*stream) {
-            Ok((labels, tables)) => {
-                return Listed::Said(target.say_taken(alloc, None, labels, tables, out, err));
-            }
-            Err(NotTaken::Missing(range)) => range,
-            Err(NotTaken::Memory) => return Listed::Said(stopped(out, err)),
+        let (start, end) = match find_missing(alloc, target, &*stream) {
+            Ok(()) => return Ok(true),
+            Err(Stop::Missing(range)) => range,
+            Err(stop) => return Err(stop),
         };
-        if let Err(error) = stream.load_range(range.0, range.1.saturating_sub(range.0)) {
-            return Listed::Unread(error, out, err);
+        if stream.load_range(start, end.saturating_sub(start)).is_err() {
+            return Ok(false);
         }
     }
-    Listed::Said(stopped(out, err))
+    Err(Stop::Memory)
 }
 
-/// Lists a file that was opened over these bytes, after it says why its section headers were not read, if they were not.
-pub(crate) fn list_bytes<E: EndianParse, W: Write, V: Write>(
+// Walks over what is asked for, and stops at the first range that is missing.
+fn find_missing<E: EndianParse, L: ListedFile<E>>(
     alloc: Global,
     target: Target<'_>,
-    bytes: &[u8],
-    file: &ElfBytes<'_, E>,
-    unread: Option<LostHeaders>,
-    out: W,
-    err: V,
-) -> Ended<W, V>
-    ensures { IsSaidAndWritten W.contents V.contents (IsSaidAfter unread
-        (IsFileSaid E.little E.of_byte (task_of target.entry.job.now) target.entry.path.now (view file.now).ehdr
-        (listed_file E.little (headers_of (view file.now)) bytes.now)))
-        (task_of target.entry.job.now) target.entry.heading target.entry.path.now
-        (record { out = W.contents out; err = V.contents err }) result }
-{
-    match FileInMemory::new(alloc, bytes, file) {
-        Ok(file) => list_file(alloc, target, &file, unread, out, err),
-        Err(AllocError) => stopped(out, err),
-    }
-}
-
-// Lists a file that has all its bytes.
-fn list_file<E: EndianParse, R: ListedFile<E>, W: Write, V: Write>(
-    alloc: Global,
-    target: Target<'_>,
-    file: &R,
-    unread: Option<LostHeaders>,
-    out: W,
-    err: V,
-) -> Ended<W, V>
-    ensures { IsSaidAndWritten W.contents V.contents (IsSaidAfter unread
-        (IsFileSaid E.little E.of_byte (task_of target.entry.job.now) target.entry.path.now (R.header file.now)
-        (file_of (R.file file.now) (R.bytes file.now))))
-        (task_of target.entry.job.now) target.entry.heading target.entry.path.now
-        (record { out = W.contents out; err = V.contents err }) result }
-{
-    match take_all(alloc, target.job, file) {
-        Ok((labels, tables)) => target.say_taken(alloc, unread, labels, tables, out, err),
-        // Nothing is missing, so an allocation failed.
-        Err(NotTaken::Missing(_) | NotTaken::Memory) => stopped(out, err),
-    }
-}
-
-// Takes the sections for what is told of them, and what the job needs.
-fn take_all<'f, 'w, E: EndianParse, R: ListedFile<E>>(
-    alloc: Global,
-    job: &'w Job<'w>,
-    file: &'f R,
-) -> Result<(Labels<'f>, JobTables<'f, 'w, E>), NotTaken>
-    ensures labels { IfOk result (λ taken. named_by taken.0
-        ≡ named_of (task_of job.now) (file_of (R.file file.now) (R.bytes file.now))) }
-    ensures tables { IfOk result (λ taken. (path : List ℕ) (said : List Said)
-        → IsTablesSaid E.little path taken.1 said
-        → IsSaidOf E.little E.of_byte (task_of job.now) path (R.header file.now)
-        (file_of (R.file file.now) (R.bytes file.now)) said) }
-{
-    let labels = take_labels(job, file)?;
-    let tables = take_job(alloc, job, file)?;
-    Ok((labels, tables))
-}
-
-// An allocation failed.
-pub(crate) fn stopped<W: Write, V: Write>(out: W, err: V) -> Ended<W, V>
-    ensures { IfOk result.said (λ _. ⊥) }
-{
-    let said = Err(Stop::Memory);
-    Ended { said, out, err }
+    file: &L,
+) -> Result<(), Stop> {
+    let _ = labels_of(target.job, file)?;
+    tell_job(alloc, target.job, target.path, file, &mut Silent)
 }

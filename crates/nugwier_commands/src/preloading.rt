@@ -6,9 +6,9 @@ use elf::endian::EndianParse;
 use elf::section::SectionHeader;
 use elf::segment::ProgramHeader;
 use elf::{ElfStream, ParseError, StreamSource, abi};
+use nugwier_report::problem::Stop;
 use nugwier_taking::headings::known_names;
 use nugwier_taking::named::has_name;
-use nugwier_taking::taking::NotTaken;
 use nugwier_taking::typed_sections::{
     GROUP_TYPES, HASH_TYPES, MACHINE_ATTRIBUTE_TYPES, NOTE_TYPES, RELOCATION_TYPES, VERSION_TYPES,
 };
@@ -51,8 +51,8 @@ fn load_names<E: EndianParse, S: StreamSource>(
         return Ok(());
     }
     match known_names(&*stream) {
-        Err(NotTaken::Missing((start, end))) => stream.load_range(start, end.saturating_sub(start)),
-        Err(NotTaken::Memory) => Err(ParseError::OutOfMemory),
+        Err(Stop::Missing((start, end))) => stream.load_range(start, end.saturating_sub(start)),
+        Err(_) => Err(ParseError::OutOfMemory),
         Ok(_) => Ok(()),
     }
 }

@@ -1,23 +1,28 @@
 //! Runs the program, apart from the operating system.
+#![tactic(auto, using(nugwier_report::proofs::Saying::saying_both))]
+
 ghost use Rattle.std.specs.Prelude.{◌≡◌, ◌++◌, codes, IfOk, IfSome, Ok, OnOk};
+ghost use Rattle.std.specs.Io.KnownBytes.{Appends, Keeps};
+ghost use Rattle.std.specs.Result.{IsOk};
+ghost use Rattle.elf.specs.ElfBytes.{view};
+ghost use Rattle.elf.specs.StreamFile.{listed_file};
 ghost use Rattle.elf_libraries.specs.Tree.{found_view};
-ghost use Rattle.std.specs.Io.KnownBytes.{Appends};
-ghost use Rattle.elf_reading.specs.Opening.{opened_by_segments};
+ghost use Rattle.elf_reading.specs.Opening.{headers_of, opened_by_segments};
 ghost use Rattle.elf_records.specs.Endian.{any_is_little, any_of_byte};
-ghost use Rattle.nugwier_commands.specs.Run.{AreBytesSaid, IsAnswered, IsBytesSaid, IsContentSaid, IsElfSaid};
-ghost use Rattle.nugwier_commands.specs.Run.{IsPrinted, IsProgramSaid, IsRun, IsTaskAnswered, IsUnopenedSaid};
-ghost use Rattle.nugwier_commands.specs.Run.{AreFilesSaid, has_headings, heading_of, status_of};
-ghost use Rattle.nugwier_commands.specs.inner.Loading.{AreSaidAndWritten, IsFileEnded, IsFrontOf, IsNamed, IsOutcomeOf};
-ghost use Rattle.nugwier_commands.specs.inner.Loading.{IsPathEnded, IsSaidAndWritten, IsWordsTold, written_by};
-ghost use Rattle.nugwier_commands.specs.Run.{IsReasonTold};
+ghost use Rattle.nugwier_commands.specs.Run.{AreBytesSaid, AreFilesSaid, ArePathSaid, AreSaidBy, IsBytesSaid, IsContentSaid};
+ghost use Rattle.nugwier_commands.specs.Run.{IsElfSaid, IsFileSaid, IsOne, IsProgramSaid, IsReasonTold, IsRun, IsSaidAt, IsUnopenedSaid};
+ghost use Rattle.nugwier_commands.specs.Run.{has_headings, heading_of, status_of};
+ghost use Rattle.nugwier_commands.specs.inner.Loading.{AreTold, IsFrontOf, IsNamed, IsOutcomeOf, IsSaidAfter, IsTried};
+ghost use Rattle.nugwier_commands.specs.inner.Loading.{IsPrintedAs, IsWordsTold};
 ghost use Rattle.nugwier_report.specs.Formats.{front};
+ghost use Rattle.nugwier_report.specs.declared.report.Summary.{Summary};
 ghost use Rattle.nugwier_words.specs.Words.{parsed, run as run_answer, task_of};
 
 use crate::archive::{is_archive, run_archive};
-use crate::ended::{Ended, LostHeaders, Target};
-use crate::loading::{Listed, list_bytes, list_source, stopped};
+use crate::loading::tell_source;
 use crate::places::run_places;
-use elf::endian::AnyEndian;
+use crate::target::{LostHeaders, Target};
+use elf::endian::{AnyEndian, EndianParse};
 use elf::{ElfBytes, ParseError, StreamSource};
 use elf_libraries::tree::LoadedFile;
 use elf_reading::reads::fetch;
@@ -25,7 +30,9 @@ use nugwier_files::below::FilesBelow;
 use nugwier_files::files::Files;
 use nugwier_report::formats::{FRONT, is_elf, not_elf};
 use nugwier_report::problem::{Fault, Stop};
-use nugwier_report::report::Summary;
+use nugwier_report::report::{Report, Summary};
+use nugwier_report::run::Run;
+use nugwier_taking::in_memory::FileInMemory;
 use nugwier_words::help::{VERSION, help};
 use nugwier_words::words::{Command, Job, Request, WordError, parse_words};
 use nugwier_writing::kind::Kind;
@@ -73,9 +80,9 @@ pub fn run<F: Files, W: Write, V: Write>(
         (record { out = W.contents result.1; err = V.contents result.2 }) (parsed is_colored words.now) result.0 }
 {
     match parse_words(alloc, is_colored, words) {
-        Ok(Request::Help(command)) => outcome_of(print(help(command), out, err)),
-        Ok(Request::Version) => outcome_of(print(VERSION, out, err)),
-        Ok(Request::Run(job)) => outcome_of(run_job(alloc, &job, files, out, err)),
+        Ok(Request::Help(command)) => print(help(command), out, err),
+        Ok(Request::Version) => print(VERSION, out, err),
+        Ok(Request::Run(job)) => run_job(alloc, &job, files, out, err),
         Err(error) => tell(error, out, err),
     }
 }
@@ -100,21 +107,27 @@ fn tell_line<V: Write>(error: &WordError<'_>, err: &mut V) -> io::Result<()>
 }
 
 // How a run ended. That the reader of the output has gone is not told; any other reason to stop is.
-fn outcome_of<W: Write, V: Write>(ended: Ended<W, V>) -> (Outcome, W, V)
-    ensures { IsOutcomeOf ended.said result.0 × (result.1 ≡ ended.out) × IfOk ended.said (λ _. result.2 ≡ ended.err) }
+fn outcome_of<V: Write>(said: Result<Summary, Stop>, err: &mut V) -> Outcome
+    ensures outcome { IsOutcomeOf said result }
+    ensures kept { IfOk said (λ _. err.new ≡ err.old) }
 {
-    let Ended { said, out, mut err } = ended;
     match said {
-        Ok(summary) => (Outcome::Done(summary), out, err),
+        Ok(summary) => Outcome::Done(summary),
         Err(stop) => {
-            tell_stop(&stop, &mut err);
-            (Outcome::Stopped(stop), out, err)
+            tell_stop(&stop, err);
+            Outcome::Stopped(stop)
         }
     }
 }
 
 fn tell_stop<V: Write>(stop: &Stop, err: &mut V) {
     match stop {
+        Stop::Missing((start, end)) => {
+            let _ = writeln!(
+                err,
+                "nugwier: bytes 0x{start:x} to 0x{end:x} are not loaded"
+            );
+        }
         Stop::Memory => {
             let _ = writeln!(err, "nugwier: out of memory");
         }
@@ -128,9 +141,9 @@ fn tell_stop<V: Write>(stop: &Stop, err: &mut V) {
 }
 
 // Prints a text, and a newline.
-fn print<W: Write, V: Write>(text: &str, mut out: W, err: V) -> Ended<W, V>
-    ensures { IfOk result.said (λ summary. IsPrinted text.now (record { out = W.contents out; err = V.contents err })
-        (written_by W.contents V.contents result) summary) }
+fn print<W: Write, V: Write>(text: &str, mut out: W, mut err: V) -> (Outcome, W, V)
+    ensures { IsPrintedAs text.now (record { out = W.contents out; err = V.contents err })
+        (record { out = W.contents result.1; err = V.contents result.2 }) result.0 }
 {
     let said = match print_line(text, &mut out) {
         Ok(()) => Ok(Summary {
@@ -139,7 +152,8 @@ fn print<W: Write, V: Write>(text: &str, mut out: W, err: V) -> Ended<W, V>
         }),
         Err(stop) => Err(stop),
     };
-    Ended { said, out, err }
+    let outcome = outcome_of(said, &mut err);
+    (outcome, out, err)
 }
 
 fn print_line<W: Write>(text: &str, out: &mut W) -> Result<(), Stop>
@@ -151,98 +165,74 @@ fn print_line<W: Write>(text: &str, out: &mut W) -> Result<(), Stop>
     Ok(())
 }
 
-// Says of each file what is asked for.
+// Tells of each file what is asked for.
 fn run_job<F: Files, W: Write, V: Write>(
     alloc: Global,
     job: &Job<'_>,
     files: &F,
     out: W,
     err: V,
-) -> Ended<W, V>
-    ensures { IfOk result.said (λ summary. IsAnswered (F.known files.now)
-        (record { out = W.contents out; err = V.contents err }) (written_by W.contents V.contents result) summary
-        (run_answer (task_of job.now))) }
+) -> (Outcome, W, V)
+    ensures { IsRun (F.known files.now) (record { out = W.contents out; err = V.contents err })
+        (record { out = W.contents result.1; err = V.contents result.2 }) (Ok (run_answer (task_of job.now))) result.0 }
 {
     let files = FilesBelow {
         alloc,
         root: job.root,
         files,
     };
-    let Ended { said, mut out, err } = run_task(alloc, job, &files, out, err);
-    match said {
-        Ok(summary) => match out.flush() {
-            Ok(()) => Ended {
-                said: Ok(summary),
-                out,
-                err,
-            },
-            Err(error) => Ended {
-                said: Err(Stop::Write(error)),
-                out,
-                err,
-            },
-        },
-        Err(stop) => Ended {
-            said: Err(stop),
-            out,
-            err,
-        },
-    }
+    let mut report = Report::new(alloc, job.format, out, err);
+    let told = run_task(alloc, job, &files, &mut report);
+    let (summary, mut out, mut err) = report.end();
+    let said = flushed(told, summary, &mut out);
+    let outcome = outcome_of(said, &mut err);
+    (outcome, out, err)
 }
 
-fn run_task<F: Files, W: Write, V: Write>(
+// What a run came to in which all was told, once all of it is written.
+fn flushed<W: Write>(told: Result<(), Stop>, summary: Summary, out: &mut W) -> Result<Summary, Stop>
+    ensures told { IfOk result (λ _. IsOk told) }
+    ensures written { IfOk result (λ same. (same ≡ summary) × Keeps (W.contents out.old) (W.contents out.new)) }
+{
+    told?;
+    out.flush()?;
+    Ok(summary)
+}
+
+fn run_task<F: Files, R: Run>(
     alloc: Global,
     job: &Job<'_>,
     files: &F,
-    out: W,
-    err: V,
-) -> Ended<W, V>
-    ensures { IfOk result.said (λ summary. IsTaskAnswered (F.known files.now)
-        (record { out = W.contents out; err = V.contents err }) (written_by W.contents V.contents result) summary
-        (task_of job.now)) }
+    run: &mut R,
+) -> Result<(), Stop>
+    ensures { let task = task_of job.now in
+        OnOk result (AreTold R.one (AreSaidBy task.is_recursive (F.known files.now) task) run.old run.new) }
 {
     if job.is_recursive {
-        run_places(alloc, job, files, out, err)
+        run_places(alloc, job, files, run)
     } else {
-        run_files(alloc, job, files, out, err)
+        run_files(alloc, job, files, run)
     }
 }
 
-fn run_files<F: Files, W: Write, V: Write>(
+fn run_files<F: Files, R: Run>(
     alloc: Global,
     job: &Job<'_>,
     files: &F,
-    mut out: W,
-    mut err: V,
-) -> Ended<W, V>
-    ensures { let task = task_of job.now in AreSaidAndWritten W.contents V.contents
-        (AreFilesSaid (F.known files.now) task 0 task.files) task
-        (record { out = W.contents out; err = V.contents err }) result }
+    run: &mut R,
+) -> Result<(), Stop>
+    ensures { let task = task_of job.now in
+        OnOk result (AreTold R.one (AreFilesSaid (F.known files.now) task 0 task.files) run.old run.new) }
 {
-    let mut are_right = true;
-    let mut are_told = true;
     for (place, path) in job.files.as_slice().iter().enumerate() {
         let target = Target {
             job: &*job,
             path: *path,
             heading: heading_of(job, place),
         };
-        let ended = run_path(alloc, target, files, out, err);
-        out = ended.out;
-        err = ended.err;
-        match ended.said {
-            Ok(summary) => {
-                are_right &= summary.is_right;
-                are_told &= summary.is_told;
-            }
-            said => return Ended { said, out, err },
-        }
+        run_path(alloc, target, files, run)?;
     }
-    let said = Ok(Summary {
-        is_right: are_right,
-        is_told: are_told,
-    });
-    Ended { said, out, err }
+    Ok(())
 }
 
 // What is above a file, by its place among the files: of several files each has its path above it, except for `check`,
@@ -269,21 +259,19 @@ fn has_headings(job: &Job<'_>) -> bool
     }
 }
 
-/// Says what is asked for of the file at a path. Its first bytes are read first, and no more if it is no ELF file.
-pub(crate) fn run_path<F: Files, W: Write, V: Write>(
+/// Tells what is asked for of the file at a path. Its first bytes are read first, and no more if it is no ELF file.
+pub(crate) fn run_path<F: Files, R: Run>(
     alloc: Global,
     target: Target<'_>,
     files: &F,
-    out: W,
-    err: V,
-) -> Ended<W, V>
-    ensures { IsPathEnded W.contents V.contents (F.known files.now) (task_of target.entry.job.now) target.entry.heading
-        target.entry.path.now
-        (record { out = W.contents out; err = V.contents err }) result }
+    run: &mut R,
+) -> Result<(), Stop>
+    ensures { OnOk result (AreTold R.one (ArePathSaid (F.known files.now) (task_of target.entry.job.now)
+        target.entry.heading target.entry.path.now) run.old run.new) }
 {
     match front_of(alloc, target.path, files) {
-        Some(front) => run_front(alloc, target, files, front.as_slice(), out, err),
-        None => run_read(alloc, target, files, out, err),
+        Some(front) => run_front(alloc, target, files, front.as_slice(), run),
+        None => run_read(alloc, target, files, run),
     }
 }
 
@@ -302,89 +290,78 @@ fn start_of<S: StreamSource>(alloc: Global, source: &mut S) -> Option<Vec<u8>>
     fetch(alloc, source, 0, len.min(FRONT as u64)).ok()
 }
 
-// Says what is asked for of the file at a path that begins with these bytes.
-fn run_front<F: Files, W: Write, V: Write>(
+// The same of the file at a path that begins with these bytes.
+fn run_front<F: Files, R: Run>(
     alloc: Global,
     target: Target<'_>,
     files: &F,
     front: &[u8],
-    out: W,
-    err: V,
-) -> Ended<W, V>
+    run: &mut R,
+) -> Result<(), Stop>
     ensures { IfSome (F.known files.now) (λ files. IsFrontOf (files.contents target.entry.path.now) front.now)
-        → IsPathEnded W.contents V.contents (F.known files.now) (task_of target.entry.job.now) target.entry.heading
-        target.entry.path.now
-        (record { out = W.contents out; err = V.contents err }) result }
+        → OnOk result (AreTold R.one (ArePathSaid (F.known files.now) (task_of target.entry.job.now)
+        target.entry.heading target.entry.path.now) run.old run.new) }
 {
     if is_archive(target.job, front) {
-        run_read(alloc, target, files, out, err)
+        run_read(alloc, target, files, run)
     } else if is_elf(front) {
-        run_command(alloc, target, files, out, err)
+        run_elf(alloc, target, files, run)
     } else {
-        target.say_problem(alloc, not_elf(front), out, err)
+        target.tell_problem(not_elf(front), run)
     }
 }
 
 // The same of a file that can only be read whole, as standard input.
-fn run_read<F: Files, W: Write, V: Write>(
+fn run_read<F: Files, R: Run>(
     alloc: Global,
     target: Target<'_>,
     files: &F,
-    out: W,
-    err: V,
-) -> Ended<W, V>
-    ensures { IsPathEnded W.contents V.contents (F.known files.now) (task_of target.entry.job.now) target.entry.heading
-        target.entry.path.now
-        (record { out = W.contents out; err = V.contents err }) result }
+    run: &mut R,
+) -> Result<(), Stop>
+    ensures { OnOk result (AreTold R.one (ArePathSaid (F.known files.now) (task_of target.entry.job.now)
+        target.entry.heading target.entry.path.now) run.old run.new) }
 {
     match files.read(target.path) {
-        Ok(data) => run_data(alloc, target, files, data, out, err),
-        Err(error) => match error.kind() {
-            io::ErrorKind::OutOfMemory => stopped(out, err),
-            _ => target.say_problem(alloc, Fault::System(error), out, err),
-        },
+        Ok(data) => run_data(alloc, target, files, data, run),
+        Err(error) => target.tell_unread(error, run),
     }
 }
 
 // The same of the bytes of a file.
-fn run_data<F: Files, W: Write, V: Write>(
+fn run_data<F: Files, R: Run>(
     alloc: Global,
     target: Target<'_>,
     files: &F,
     data: Vec<u8>,
-    out: W,
-    err: V,
-) -> Ended<W, V>
-    ensures { let task = task_of target.entry.job.now in AreSaidAndWritten W.contents V.contents
-        (AreBytesSaid (F.known files.now) task target.entry.heading target.entry.path.now «data».items)
-        task (record { out = W.contents out; err = V.contents err }) result }
+    run: &mut R,
+) -> Result<(), Stop>
+    ensures { OnOk result (AreTold R.one (AreBytesSaid (F.known files.now) (task_of target.entry.job.now)
+        target.entry.heading target.entry.path.now «data».items) run.old run.new) }
 {
     if is_archive(target.job, front_in(data.as_slice())) {
-        run_archive(alloc, target, files, data.as_slice(), out, err)
+        run_archive(alloc, target, files, data.as_slice(), run)
     } else {
-        run_one(alloc, target, files, data, out, err)
+        run_one(alloc, target, files, data, run)
     }
 }
 
 // The same of the bytes of one file.
-fn run_one<F: Files, W: Write, V: Write>(
+fn run_one<F: Files, R: Run>(
     alloc: Global,
     target: Target<'_>,
     files: &F,
     data: Vec<u8>,
-    out: W,
-    err: V,
-) -> Ended<W, V>
-    ensures { let task = task_of target.entry.job.now in IsSaidAndWritten W.contents V.contents
-        (IsElfSaid (IsContentSaid (F.known files.now) task.command task target.entry.path.now) «data».items)
-        task target.entry.heading target.entry.path.now
-        (record { out = W.contents out; err = V.contents err }) result }
+    run: &mut R,
+) -> Result<(), Stop>
+    ensures { let task = task_of target.entry.job.now in OnOk result (AreTold R.one (IsOne target.entry.heading
+        target.entry.path.now (IsElfSaid (IsContentSaid (F.known files.now) task.command task target.entry.path.now)
+        «data».items)) run.old run.new) }
 {
     let front = front_in(data.as_slice());
     if is_elf(front) {
-        run_content(alloc, target, files, data, out, err)
+        run_content(alloc, target, files, data, run)
     } else {
-        target.say_problem(alloc, not_elf(front), out, err)
+        target.tell_problem(not_elf(front), run)
     }
 }
 
@@ -395,64 +372,98 @@ pub(crate) fn front_in(bytes: &[u8]) -> &[u8]
     &bytes[..bytes.len().min(FRONT)]
 }
 
-fn run_content<F: Files, W: Write, V: Write>(
+// The same of the bytes of an ELF file.
+fn run_content<F: Files, R: Run>(
     alloc: Global,
     target: Target<'_>,
     files: &F,
     data: Vec<u8>,
-    out: W,
-    err: V,
-) -> Ended<W, V>
-    ensures { let task = task_of target.entry.job.now in IsSaidAndWritten W.contents V.contents
-        (IsContentSaid (F.known files.now) task.command task target.entry.path.now «data».items)
-        task target.entry.heading target.entry.path.now
-        (record { out = W.contents out; err = V.contents err }) result }
+    run: &mut R,
+) -> Result<(), Stop>
+    ensures { let task = task_of target.entry.job.now in OnOk result (AreTold R.one (IsOne target.entry.heading
+        target.entry.path.now (IsContentSaid (F.known files.now) task.command task target.entry.path.now «data».items))
+        run.old run.new) }
 {
     match target.job.command {
-        Command::Tree => target.say_program(alloc, files, data, out, err),
-        Command::Bindings => target.say_program(alloc, files, data, out, err),
-        _ => run_bytes(alloc, target, data.as_slice(), out, err),
+        Command::Tree => target.tell_program(alloc, files, data, run),
+        Command::Bindings => target.tell_program(alloc, files, data, run),
+        _ => run_bytes(alloc, target, data.as_slice(), run),
     }
 }
 
-// Says what is asked for of an ELF file at a path.
-fn run_command<F: Files, W: Write, V: Write>(
+// The same of an ELF file at a path. It is read by parts; one that cannot be read so is read whole.
+fn run_elf<F: Files, R: Run>(
     alloc: Global,
     target: Target<'_>,
     files: &F,
-    out: W,
-    err: V,
-) -> Ended<W, V>
-    ensures { let task = task_of target.entry.job.now in IsFileEnded W.contents V.contents (F.known files.now)
-        (IsContentSaid (F.known files.now) task.command task target.entry.path.now)
-        task target.entry.heading target.entry.path.now
-        (record { out = W.contents out; err = V.contents err }) result }
+    run: &mut R,
+) -> Result<(), Stop>
+    ensures { let task = task_of target.entry.job.now in let known = F.known files.now in
+        OnOk result (AreTold R.one (IsOne target.entry.heading target.entry.path.now
+        (IsSaidAt known (IsContentSaid known task.command task target.entry.path.now) target.entry.path.now))
+        run.old run.new) }
 {
-    match target.job.command {
-        Command::Tree => run_program(alloc, target, files, out, err),
-        Command::Bindings => run_program(alloc, target, files, out, err),
-        _ => run_file(alloc, target, files, out, err),
+    if run_parts(alloc, target, files, run)? {
+        return Ok(());
+    }
+    match files.read(target.path) {
+        Ok(data) => run_content(alloc, target, files, data, run),
+        Err(error) => target.tell_unread(error, run),
     }
 }
 
-// A program is read by parts; one that cannot be read so is read whole.
-fn run_program<F: Files, W: Write, V: Write>(
+// The same, if the file can be read by parts. Returns whether it was told.
+fn run_parts<F: Files, R: Run>(
     alloc: Global,
     target: Target<'_>,
     files: &F,
-    out: W,
-    err: V,
-) -> Ended<W, V>
-    ensures { IsFileEnded W.contents V.contents (F.known files.now)
-        (λ bytes named said. IsProgramSaid (F.known files.now) target.entry.job.now.command (task_of target.entry.job.now)
-        target.entry.path.now bytes named said)
-        (task_of target.entry.job.now) target.entry.heading target.entry.path.now
-        (record { out = W.contents out; err = V.contents err }) result }
+    run: &mut R,
+) -> Result<bool, Stop>
+    ensures { let task = task_of target.entry.job.now in let known = F.known files.now in
+        IfOk result (IsTried R.one (IsOne target.entry.heading target.entry.path.now
+        (IsSaidAt known (IsContentSaid known task.command task target.entry.path.now) target.entry.path.now))
+        run.old run.new) }
 {
-    match open_program(alloc, target.path, files) {
-        Some(program) => target.say_named(alloc, files, program, out, err),
-        None => run_whole_program(alloc, target, files, out, err),
+    match target.job.command {
+        Command::Tree => run_program(alloc, target, files, run),
+        Command::Bindings => run_program(alloc, target, files, run),
+        _ => run_source(alloc, target, files, run),
     }
+}
+
+// The same of one file.
+fn run_source<F: Files, R: Run>(
+    alloc: Global,
+    target: Target<'_>,
+    files: &F,
+    run: &mut R,
+) -> Result<bool, Stop>
+    ensures { IfOk result (IsTried R.one (IsOne target.entry.heading target.entry.path.now (IsSaidAt (F.known files.now)
+        (IsBytesSaid (task_of target.entry.job.now) target.entry.path.now) target.entry.path.now)) run.old run.new) }
+{
+    match files.open(target.path) {
+        Some(source) => tell_source(alloc, target, source, run),
+        None => Ok(false),
+    }
+}
+
+// The same of a program.
+fn run_program<F: Files, R: Run>(
+    alloc: Global,
+    target: Target<'_>,
+    files: &F,
+    run: &mut R,
+) -> Result<bool, Stop>
+    ensures { let task = task_of target.entry.job.now in let known = F.known files.now in
+        IfOk result (IsTried R.one (IsOne target.entry.heading target.entry.path.now
+        (IsSaidAt known (IsProgramSaid known task.command task target.entry.path.now) target.entry.path.now))
+        run.old run.new) }
+{
+    let Some(program) = open_program(alloc, target.path, files) else {
+        return Ok(false);
+    };
+    target.tell_named(alloc, files, program, run)?;
+    Ok(true)
 }
 
 // The program at a path by its names, if it can be read by parts.
@@ -464,136 +475,79 @@ fn open_program<F: Files>(alloc: Global, path: &str, files: &F) -> Option<Loaded
     LoadedFile::open_names(alloc, path.as_bytes(), source)
 }
 
-// Says what is asked for of a program at a path, which is read whole.
-fn run_whole_program<F: Files, W: Write, V: Write>(
-    alloc: Global,
-    target: Target<'_>,
-    files: &F,
-    out: W,
-    err: V,
-) -> Ended<W, V>
-    ensures { IsFileEnded W.contents V.contents (F.known files.now)
-        (λ bytes named said. IsProgramSaid (F.known files.now) target.entry.job.now.command (task_of target.entry.job.now)
-        target.entry.path.now bytes named said)
-        (task_of target.entry.job.now) target.entry.heading target.entry.path.now
-        (record { out = W.contents out; err = V.contents err }) result }
-{
-    match files.read(target.path) {
-        Ok(data) => target.say_program(alloc, files, data, out, err),
-        Err(error) => match error.kind() {
-            io::ErrorKind::OutOfMemory => stopped(out, err),
-            _ => target.say_problem(alloc, Fault::System(error), out, err),
-        },
-    }
-}
-
-// One file is read by parts; a source that cannot be read so is read whole.
-fn run_file<F: Files, W: Write, V: Write>(
-    alloc: Global,
-    target: Target<'_>,
-    files: &F,
-    out: W,
-    err: V,
-) -> Ended<W, V>
-    ensures { IsFileEnded W.contents V.contents (F.known files.now)
-        (λ bytes named said. IsBytesSaid (task_of target.entry.job.now) target.entry.path.now bytes named said)
-        (task_of target.entry.job.now) target.entry.heading target.entry.path.now
-        (record { out = W.contents out; err = V.contents err }) result }
-{
-    match files.open(target.path) {
-        Some(source) => match list_source(alloc, target, source, out, err) {
-            Listed::Said(ended) => ended,
-            Listed::Unread(_, out, err) => run_whole(alloc, target, files, out, err),
-        },
-        None => run_whole(alloc, target, files, out, err),
-    }
-}
-
-// The same of a file that is read whole.
-fn run_whole<F: Files, W: Write, V: Write>(
-    alloc: Global,
-    target: Target<'_>,
-    files: &F,
-    out: W,
-    err: V,
-) -> Ended<W, V>
-    ensures { IsFileEnded W.contents V.contents (F.known files.now)
-        (λ bytes named said. IsBytesSaid (task_of target.entry.job.now) target.entry.path.now bytes named said)
-        (task_of target.entry.job.now) target.entry.heading target.entry.path.now
-        (record { out = W.contents out; err = V.contents err }) result }
-{
-    match files.read(target.path) {
-        Ok(bytes) => run_bytes(alloc, target, bytes.as_slice(), out, err),
-        Err(error) => match error.kind() {
-            io::ErrorKind::OutOfMemory => stopped(out, err),
-            _ => target.say_problem(alloc, Fault::System(error), out, err),
-        },
-    }
-}
-
 /// The same of a member of an archive.
-pub(crate) fn run_slice<W: Write, V: Write>(
+pub(crate) fn run_slice<R: Run>(
     alloc: Global,
     target: Target<'_>,
     bytes: &[u8],
-    out: W,
-    err: V,
-) -> Ended<W, V>
-    ensures { let task = task_of target.entry.job.now in IsSaidAndWritten W.contents V.contents
-        (IsElfSaid (IsBytesSaid task target.entry.path.now) bytes.now)
-        task target.entry.heading target.entry.path.now
-        (record { out = W.contents out; err = V.contents err }) result }
+    run: &mut R,
+) -> Result<(), Stop>
+    ensures { let task = task_of target.entry.job.now in OnOk result (AreTold R.one (IsOne target.entry.heading
+        target.entry.path.now (IsElfSaid (IsBytesSaid task target.entry.path.now) bytes.now)) run.old run.new) }
 {
     let front = front_in(bytes);
     if is_elf(front) {
-        run_bytes(alloc, target, bytes, out, err)
+        run_bytes(alloc, target, bytes, run)
     } else {
-        target.say_problem(alloc, not_elf(front), out, err)
+        target.tell_problem(not_elf(front), run)
     }
 }
 
-fn run_bytes<W: Write, V: Write>(
+fn run_bytes<R: Run>(
     alloc: Global,
     target: Target<'_>,
     bytes: &[u8],
-    out: W,
-    err: V,
-) -> Ended<W, V>
-    ensures { IsSaidAndWritten W.contents V.contents (IsBytesSaid (task_of target.entry.job.now) target.entry.path.now bytes.now)
-        (task_of target.entry.job.now) target.entry.heading target.entry.path.now
-        (record { out = W.contents out; err = V.contents err }) result }
+    run: &mut R,
+) -> Result<(), Stop>
+    ensures { OnOk result (AreTold R.one (IsOne target.entry.heading target.entry.path.now
+        (IsBytesSaid (task_of target.entry.job.now) target.entry.path.now bytes.now)) run.old run.new) }
 {
     match ElfBytes::<AnyEndian>::minimal_parse(bytes) {
-        Ok(file) => list_bytes(alloc, target, bytes, &file, None, out, err),
-        Err(error) => run_unopened(alloc, target, bytes, error, out, err),
+        Ok(file) => run_opened(alloc, target, bytes, &file, None, run),
+        Err(error) => run_unopened(alloc, target, bytes, error, run),
     }
+}
+
+// The same of a file that was opened over these bytes, after it is told why its section headers were not read, if they
+// were not.
+fn run_opened<E: EndianParse, R: Run>(
+    alloc: Global,
+    target: Target<'_>,
+    bytes: &[u8],
+    file: &ElfBytes<'_, E>,
+    lost: Option<LostHeaders>,
+    run: &mut R,
+) -> Result<(), Stop>
+    ensures { OnOk result (AreTold R.one (IsOne target.entry.heading target.entry.path.now (IsSaidAfter lost
+        (IsFileSaid E.little E.of_byte (task_of target.entry.job.now) target.entry.path.now (view file.now).ehdr
+        (listed_file E.little (headers_of (view file.now)) bytes.now)))) run.old run.new) }
+{
+    let file = FileInMemory::new(alloc, bytes, file)?;
+    target.tell_file(alloc, lost, &file, run)
 }
 
 // The same of a file that does not open. If its section headers alone cannot be read, it is read through its segments,
 // unless it is checked: it is not sound.
-fn run_unopened<W: Write, V: Write>(
+fn run_unopened<R: Run>(
     alloc: Global,
     target: Target<'_>,
     bytes: &[u8],
     error: ParseError,
-    out: W,
-    err: V,
-) -> Ended<W, V>
-    ensures { let task = task_of target.entry.job.now in IsSaidAndWritten W.contents V.contents
-        (IsUnopenedSaid task.command task target.entry.path.now bytes.now error
-        (opened_by_segments any_is_little any_of_byte bytes.now))
-        task target.entry.heading target.entry.path.now
-        (record { out = W.contents out; err = V.contents err }) result }
+    run: &mut R,
+) -> Result<(), Stop>
+    ensures { let task = task_of target.entry.job.now in OnOk result (AreTold R.one (IsOne target.entry.heading
+        target.entry.path.now (IsUnopenedSaid task.command task target.entry.path.now bytes.now error
+        (opened_by_segments any_is_little any_of_byte bytes.now))) run.old run.new) }
 {
     if matches!(target.job.command, Command::Check) {
-        return target.say_problem(alloc, Fault::Read(error), out, err);
+        return target.tell_problem(Fault::Read(error), run);
     }
     match ElfBytes::<AnyEndian>::parse_by_segments(bytes) {
         Ok(file) => {
             let len = bytes.len();
             let lost = LostHeaders { error, len };
-            list_bytes(alloc, target, bytes, &file, Some(lost), out, err)
+            run_opened(alloc, target, bytes, &file, Some(lost), run)
         }
-        Err(_) => target.say_problem(alloc, Fault::Read(error), out, err),
+        Err(_) => target.tell_problem(Fault::Read(error), run),
     }
 }

@@ -1,1 +1,1 @@
-mod Hardened
+pub mod Hardened

@@ -1,4 +1,4 @@
--- what was taken, as the definitions have it
+-- how a file with known dynamic entries is hardened
 pub mod inner
 -- the dynamic entries
 pub mod Dynamic

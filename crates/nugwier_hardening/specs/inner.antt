@@ -1,4 +1,2 @@
--- the dynamic entries that were taken
-pub mod Dynamic
--- how a file is hardened
+-- how a file with known dynamic entries is hardened
 pub mod Hardening

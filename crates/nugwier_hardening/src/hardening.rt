@@ -1,35 +1,38 @@
 //! How a file is hardened against attacks.
-ghost use Rattle.std.specs.Prelude.{◌≡◌, ◌==◌, IfOk, OnOk, filter, length, map};
+#![tactic(auto, using(nugwier_report::proofs::Saying::saying_both))]
+
+ghost use Rattle.std.specs.Prelude.{◌≡◌, ◌==◌, ◌++◌, IfOk, OnOk, Some, filter, length, map};
 ghost use Rattle.std.specs.List.{flat_map, list_any, slice_split};
 ghost use Rattle.std.specs.Option.{option_copied, option_map};
+ghost use Rattle.std.specs.Result.{result_ok};
 ghost use Rattle.elf.specs.Answers.{symbols_view};
 ghost use Rattle.elf.specs.Names.{is_string};
+ghost use Rattle.elf_abi.specs.Values.{dt_rpath, dt_runpath};
+ghost use Rattle.elf_linking.specs.Needed.{strings_by};
 ghost use Rattle.elf_parts.specs.Note.{notes_left};
 ghost use Rattle.elf_records.specs.Dynamic.{has_tag};
 ghost use Rattle.elf_records.specs.Number.{ok_map};
 ghost use Rattle.elf_records.specs.StringTable.{string_at};
 ghost use Rattle.elf_records.specs.Symbol.{symbol_reads};
 ghost use Rattle.elf_records.specs.Table.{table_items, table_view};
-ghost use Rattle.nugwier_hardening.specs.Hardening.{any_symbol, binds_now, count_symbols, dynamic_kind, entries_unread};
-ghost use Rattle.nugwier_hardening.specs.Hardening.{feature_in, features_by, features_of, file_kind, first_properties};
-ghost use Rattle.nugwier_hardening.specs.Hardening.{hardened, hardening_by, has_flag, has_symbol_table};
-ghost use Rattle.nugwier_hardening.specs.Hardening.{has_unsafe_path, headers_of};
-ghost use Rattle.nugwier_hardening.specs.Hardening.{is_canary, is_fortifiable, is_fortified, is_named, is_segment, is_stripped};
-ghost use Rattle.nugwier_hardening.specs.Hardening.{is_unsafe_folder, is_unsafe_path, judged_said, kind_of, known_entries};
-ghost use Rattle.nugwier_hardening.specs.Hardening.{lack_said, last_tagged, path_at, path_in, path_missed};
-ghost use Rattle.nugwier_hardening.specs.Hardening.{path_unread, properties_of, properties_unread, property_section};
-ghost use Rattle.nugwier_hardening.specs.Hardening.{property_segment, relro_of, stack_of, symbols_of};
+ghost use Rattle.nugwier_hardening.specs.Dynamic.{strings_missed};
+ghost use Rattle.nugwier_hardening.specs.Hardening.{any_symbol, binds_now, count_symbols, dynamic_kind, feature_in};
+ghost use Rattle.nugwier_hardening.specs.Hardening.{features_by, features_of, file_kind, first_properties};
+ghost use Rattle.nugwier_hardening.specs.Hardening.{hardened, hardening_by, has_flag, has_symbol_table, has_unsafe_path};
+ghost use Rattle.nugwier_hardening.specs.Hardening.{headers_of, is_canary, is_fortifiable, is_fortified, is_named, is_segment};
+ghost use Rattle.nugwier_hardening.specs.Hardening.{is_unsafe_folder, is_unsafe_path, kind_of, lack_said, last_tagged};
+ghost use Rattle.nugwier_hardening.specs.Hardening.{path_at, path_missed, path_unread, paths_of, properties_of};
+ghost use Rattle.nugwier_hardening.specs.Hardening.{properties_unread, property_section, property_segment, relro_of};
+ghost use Rattle.nugwier_hardening.specs.Hardening.{said_of_hardening, stack_of, symbols_of};
+ghost use Rattle.nugwier_hardening.specs.inner.Hardening.{known_said};
+ghost use Rattle.nugwier_notes.specs.Properties.{feature_type};
+ghost use Rattle.nugwier_report.specs.Hardening.{paths_view};
+ghost use Rattle.nugwier_report.specs.Said.{saying, whole};
 ghost use Rattle.nugwier_taking.specs.Read.{fault_said, if_read};
 ghost use Rattle.nugwier_taking.specs.Whole.{file_of};
-ghost use Rattle.nugwier_hardening.specs.inner.Dynamic.{entries_view};
-ghost use Rattle.nugwier_hardening.specs.inner.Hardening.{headers_view, link_view, property_view, tables_said};
-ghost use Rattle.nugwier_hardening.specs.inner.Hardening.{tables_view};
-ghost use Rattle.nugwier_report.specs.Hardening.{paths_view};
-ghost use Rattle.nugwier_notes.specs.Properties.{feature_type};
-ghost use Rattle.nugwier_report.specs.Said.{saying, whole};
 ghost use Rattle.nugwier_words.specs.Words.{task_of};
 
-use crate::dynamic::{DynamicEntries, FoundEntries, found_strings, take_dynamic};
+use crate::dynamic::found_strings;
 use elf::dynamic::Dyn;
 use elf::endian::EndianParse;
 use elf::file::Class;
@@ -45,81 +48,50 @@ use elf_check::notes::note_align;
 use elf_dynamic::dynamic_view::{has_tag, value_in};
 use elf_linking::needed;
 use nugwier_notes::properties::{feature_type, is_property_note, number_in, padded, property_at};
-use nugwier_report::hardening::{
-    FileKind, Hardening, Relro, Requirement, SearchPaths, say_hardening,
-};
+use nugwier_report::hardening::{FileKind, Hardening, Relro, Requirement, SearchPaths};
 use nugwier_report::problem::{Fault, Item, Part, Stop};
-use nugwier_report::report::Report;
+use nugwier_report::tell::{Tell, readable};
 use nugwier_taking::headings::known_names;
 use nugwier_taking::linked::linked_symbols;
 use nugwier_taking::listed::ListedFile;
 use nugwier_taking::named::first_named;
 use nugwier_taking::taking;
-use nugwier_taking::taking::{FoundSymbols, NotTaken, Symbols};
+use nugwier_taking::taking::Symbols;
 use nugwier_words::words::Job;
 use nugwier_writing::slices::rest_of;
 use std::alloc::Global;
-use std::io::Write;
 
-/// Bytes of notes that have the properties of code, and the alignment that they declare.
-#[derive(Drop)]
-pub struct PropertyBytes<'f> {
-    part: Part,
-    align: u64,
-    bytes: Result<&'f [u8], ParseError>,
-}
-
-/// The headers of a file that say how it is hardened.
-#[derive(Clone, Copy)]
-pub struct HeaderLists<'f> {
-    e_type: u16,
-    machine: u16,
-    segments: &'f [ProgramHeader],
-    sections: &'f [SectionHeader],
-}
-
-/// What is taken of a file to say how it is hardened, and what is required of it.
-#[derive(Drop)]
-pub struct HardeningTables<'f, 'w, E: EndianParse> {
-    requirements: &'w [Requirement],
-    headers: HeaderLists<'f>,
-    order: E,
-    class: Class,
-    entries: FoundEntries<'f>,
-    symbols: (Part, FoundSymbols<'f, E>),
-    properties: Option<PropertyBytes<'f>>,
-}
-
-/// Takes what is needed of a file.
-pub fn take_hardening<'f, 'w, E: EndianParse, R: ListedFile<E>>(
+/// Tells what cannot be read of the file of this path, how it is hardened, and what it lacks of what the job requires.
+pub fn tell_hardening<E: EndianParse, R: ListedFile<E>, T: Tell>(
     alloc: Global,
-    job: &'w Job<'w>,
-    file: &'f R,
-) -> Result<HardeningTables<'f, 'w, E>, NotTaken>
-    ensures requirements { IfOk result (λ t. t.requirements.now ≡ (task_of job.now).requirements) }
-    ensures tables { let header = R.header file.now in IfOk result (λ t. tables_view E.little t
-        ≡ hardened header.e_type header.e_machine (file_of (R.file file.now) (R.bytes file.now))) }
+    path: &str,
+    job: &Job<'_>,
+    file: &R,
+    tell: &mut T,
+) -> Result<(), Stop>
+    ensures { let header = R.header file.now in OnOk result (tell.new ≡ saying T.one tell.old
+        (said_of_hardening path.now (task_of job.now).requirements header.e_type header.e_machine
+        (file_of (R.file file.now) (R.bytes file.now)))) }
 {
-    let headers = headers_of(file);
-    let entries = take_dynamic(alloc, file)?;
-    let symbols = take_symbols(file)?;
-    let properties = take_properties(file)?;
-    Ok(HardeningTables {
-        requirements: job.requirements.as_slice(),
-        headers,
-        order: file.endianness(),
-        class: file.class(),
-        entries,
-        symbols,
-        properties,
-    })
+    let requirements = job.requirements.as_slice();
+    match taking::dynamic(file)? {
+        Ok(Some(table)) => {
+            let entries = needed::entries_in(alloc, &table)?;
+            tell_linked(path, requirements, file, entries.as_slice(), tell)
+        }
+        Ok(None) => tell_known(path, requirements, file, Some(&[]), NO_PATHS, tell),
+        Err(error) => {
+            tell.problem(Part::Dynamic.whole(), Fault::Read(error))?;
+            tell_known(path, requirements, file, None, NO_PATHS, tell)
+        }
+    }
 }
 
-/// Takes what a file is.
-pub fn take_kind<E: EndianParse, R: ListedFile<E>>(
+/// Returns what a file is, if that is known.
+pub fn file_kind<E: EndianParse, R: ListedFile<E>>(
     alloc: Global,
     file: &R,
-) -> Result<Option<FileKind>, NotTaken>
+) -> Result<Option<FileKind>, Stop>
     ensures { let header = R.header file.now in IfOk result (λ kind. kind
         ≡ kind_of header.e_type header.e_machine (file_of (R.file file.now) (R.bytes file.now))) }
 {
@@ -129,179 +101,101 @@ pub fn take_kind<E: EndianParse, R: ListedFile<E>>(
     match taking::dynamic(file)? {
         Ok(Some(table)) => {
             let entries = needed::entries_in(alloc, &table)?;
-            Ok(file_kind(e_type, segments, Some(entries.as_slice())))
+            Ok(kind_by(e_type, segments, Some(entries.as_slice())))
         }
-        Ok(None) => Ok(file_kind(e_type, segments, Some(&[]))),
-        Err(_) => Ok(file_kind(e_type, segments, None)),
+        Ok(None) => Ok(kind_by(e_type, segments, Some(&[]))),
+        Err(_) => Ok(kind_by(e_type, segments, None)),
     }
 }
 
-fn headers_of<'f, E: EndianParse, R: ListedFile<E>>(file: &'f R) -> HeaderLists<'f>
-    ensures { let header = R.header file.now in headers_view result
-        ≡ headers_of header.e_type header.e_machine (file_of (R.file file.now) (R.bytes file.now)) }
-{
-    let header = file.file_header();
-    HeaderLists {
-        e_type: header.e_type,
-        machine: header.e_machine,
-        segments: file.segment_list(),
-        sections: file.section_list(),
-    }
-}
-
-// The symbols for dynamic linking, or if there are none all symbols.
-fn take_symbols<'f, E: EndianParse, R: ListedFile<E>>(
-    file: &'f R,
-) -> Result<(Part, FoundSymbols<'f, E>), NotTaken>
-    ensures { IfOk result (λ found. (found.0, ok_map (option_map symbols_view) found.1)
-        ≡ symbols_of (file_of (R.file file.now) (R.bytes file.now))) }
-{
-    match linked_symbols(file)? {
-        Ok(None) => Ok((Part::Symbols, taking::symbols(file)?)),
-        Ok(Some(symbols)) => Ok((Part::DynamicSymbols, Ok(Some(symbols)))),
-        Err(fault) => Ok((Part::DynamicSymbols, Err(fault))),
-    }
-}
-
-// The notes with the properties of code, by the segments or by the name of their section.
-fn take_properties<'f, E: EndianParse, R: ListedFile<E>>(
-    file: &'f R,
-) -> Result<Option<PropertyBytes<'f>>, NotTaken>
-    ensures { IfOk result (λ found. option_map property_view found
-        ≡ properties_of (file_of (R.file file.now) (R.bytes file.now))) }
-{
-    if let Some((number, segment)) = property_segment(file.segment_list()) {
-        return Ok(Some(PropertyBytes {
-            part: Part::Segment(number as u64),
-            align: segment.p_align,
-            bytes: taking::segment_data(file, &segment)?,
-        }));
-    }
-    match property_section(file)? {
-        Some((number, section)) => Ok(Some(PropertyBytes {
-            part: Part::Section(number as u64),
-            align: section.sh_addralign,
-            bytes: taking::content(file, &section)?,
-        })),
-        None => Ok(None),
-    }
-}
-
-fn property_segment(segments: &[ProgramHeader]) -> Option<(usize, ProgramHeader)>
-    ensures { result ≡ property_segment segments.now }
-{
-    segments
-        .iter()
-        .copied()
-        .enumerate()
-        .find(|one| one.1.p_type == abi::PT_GNU_PROPERTY)
-}
-
-fn property_section<E: EndianParse, R: ListedFile<E>>(
-    file: &R,
-) -> Result<Option<(usize, SectionHeader)>, NotTaken>
-    ensures { IfOk result (λ found. found ≡ property_section (file_of (R.file file.now) (R.bytes file.now))) }
-{
-    let names = known_names(file)?;
-    Ok(first_named(file.section_list(), &names, ".note.gnu.property"))
-}
-
-/// Says what cannot be read of the file of this path, how it is hardened, and what it lacks.
-pub fn say_hardened<E: EndianParse, W: Write, V: Write>(
-    alloc: Global,
+// Tells how a file with these dynamic entries is hardened, and what it lacks.
+fn tell_linked<E: EndianParse, R: ListedFile<E>, T: Tell>(
     path: &str,
-    tables: HardeningTables<'_, '_, E>,
-    report: &mut Report<'_, W, V>,
+    requirements: &[Requirement],
+    file: &R,
+    entries: &[Dyn],
+    tell: &mut T,
 ) -> Result<(), Stop>
-    ensures { OnOk result (report.new ≡ saying report.old (tables_said E.little path.now tables.entry)) }
+    ensures { let header = R.header file.now in let file = file_of (R.file file.now) (R.bytes file.now) in
+        let strings = strings_by file entries.now in let known = Some (entries.now, result_ok strings) in
+        OnOk result (tell.new ≡ saying T.one tell.old (strings_missed strings
+        ++ path_missed dt_rpath known ++ path_missed dt_runpath known
+        ++ known_said path.now requirements.now (hardened header.e_type header.e_machine file) (Some entries.now)
+        (paths_of known))) }
 {
-    let HardeningTables {
-        requirements,
-        headers,
-        order,
-        class,
-        entries,
-        symbols,
-        properties,
-    } = tables;
-    let known = known_entries(alloc, entries, report)?;
-    let rpath = found_path(abi::DT_RPATH, &known, report)?;
-    let runpath = found_path(abi::DT_RUNPATH, &known, report)?;
-    let symbols = known_symbols(symbols, report)?;
-    let features = known_features(order, class, headers.machine, properties, report)?;
-    let paths = SearchPaths { rpath, runpath };
-    let entries = entries_in(&known);
-    let hardening = hardening_by(headers, entries, paths, &symbols, features);
-    say_judged(path, requirements, &hardening, paths, report)
+    let paths = search_paths(file, entries, tell)?;
+    tell_known(path, requirements, file, Some(entries), paths, tell)
+}
+
+// The same with these dynamic entries, if they can be read, and these search paths.
+fn tell_known<E: EndianParse, R: ListedFile<E>, T: Tell>(
+    path: &str,
+    requirements: &[Requirement],
+    file: &R,
+    entries: Option<&[Dyn]>,
+    paths: SearchPaths<'_>,
+    tell: &mut T,
+) -> Result<(), Stop>
+    ensures { let header = R.header file.now in OnOk result (tell.new ≡ saying T.one tell.old
+        (known_said path.now requirements.now
+        (hardened header.e_type header.e_machine (file_of (R.file file.now) (R.bytes file.now)))
+        (option_copied entries.entry) (paths_view paths.entry))) }
+{
+    let symbols = known_symbols(file, tell)?;
+    let features = known_features(file, tell)?;
+    if tell.is_silent() {
+        return Ok(());
+    }
+    let hardening = hardening_by(file, entries, paths, &symbols, features);
+    nugwier_report::hardening::tell_hardening(path, &hardening, paths, tell)?;
+    tell_lacks(requirements, &hardening, tell)
 }
 
 // How a file is hardened, with these dynamic entries and search paths, these symbols and these features.
-fn hardening_by<E: EndianParse>(
-    headers: HeaderLists<'_>,
+fn hardening_by<E: EndianParse, R: ListedFile<E>>(
+    file: &R,
     entries: Option<&[Dyn]>,
     paths: SearchPaths<'_>,
     symbols: &Option<Symbols<'_, E>>,
     features: Option<u64>,
 ) -> Hardening
-    ensures { result ≡ hardening_by (headers_view headers.entry) (option_copied entries.entry)
-        (paths_view paths.entry) (option_map symbols_view symbols.now) features }
+    ensures { let header = R.header file.now in result ≡ hardening_by
+        (headers_of header.e_type header.e_machine (file_of (R.file file.now) (R.bytes file.now)))
+        (option_copied entries.entry) (paths_view paths.entry) (option_map symbols_view symbols.now) features }
 {
+    let header = file.file_header();
+    let segments = file.segment_list();
     let binds_now = binds_now(entries);
     Hardening {
-        machine: headers.machine,
-        kind: file_kind(headers.e_type, headers.segments, entries),
-        relro: relro_of(headers.segments, binds_now),
+        machine: header.e_machine,
+        kind: kind_by(header.e_type, segments, entries),
+        relro: relro_of(segments, binds_now),
         binds_now,
-        has_nx: stack_of(headers.e_type, headers.segments),
-        writable_code: count_segments(abi::PT_LOAD, abi::PF_W | abi::PF_X, headers.segments),
+        has_nx: stack_of(header.e_type, segments),
+        writable_code: count_segments(abi::PT_LOAD, abi::PF_W | abi::PF_X, segments),
         has_canary: has_canary(symbols),
         fortified: count_fortified(symbols),
         fortifiable: count_fortifiable(symbols),
         is_path_unsafe: unsafe_path(entries, paths),
         features,
-        is_stripped: is_stripped(headers.sections),
+        is_stripped: !has_symbol_table(file.section_list()),
     }
 }
 
-// Says how a file is hardened, and what it lacks.
-fn say_judged<W: Write, V: Write>(
-    path: &str,
+// Tells what of this is required and not met.
+fn tell_lacks<T: Tell>(
     requirements: &[Requirement],
     hardening: &Hardening,
-    paths: SearchPaths<'_>,
-    report: &mut Report<'_, W, V>,
+    tell: &mut T,
 ) -> Result<(), Stop>
-    ensures { OnOk result (report.new ≡ saying report.old
-        (judged_said path.now requirements.now hardening.now (paths_view paths.entry))) }
-{
-    say_hardening(path, hardening, paths, report)?;
-    say_lacks(requirements, hardening, report)
-}
-
-fn say_lacks<W: Write, V: Write>(
-    requirements: &[Requirement],
-    hardening: &Hardening,
-    report: &mut Report<'_, W, V>,
-) -> Result<(), Stop>
-    ensures { OnOk result (report.new ≡ saying report.old (flat_map (lack_said hardening.now) requirements.now)) }
+    ensures { OnOk result (tell.new ≡ saying T.one tell.old (flat_map (lack_said hardening.now) requirements.now)) }
 {
     for requirement in requirements {
-        say_lack(*requirement, hardening, report)?;
+        if !requirement.is_met(hardening) {
+            tell.problem(Part::File.whole(), Fault::Lacks(*requirement))?;
+        }
     }
     Ok(())
-}
-
-fn say_lack<W: Write, V: Write>(
-    requirement: Requirement,
-    hardening: &Hardening,
-    report: &mut Report<'_, W, V>,
-) -> Result<(), Stop>
-    ensures { OnOk result (report.new ≡ saying report.old (lack_said hardening.now requirement)) }
-{
-    if requirement.is_met(hardening) {
-        return Ok(());
-    }
-    report.problem(Part::File.whole(), Fault::Lacks(requirement))
 }
 
 // ---- segments
@@ -350,64 +244,7 @@ fn has_symbol_table(sections: &[SectionHeader]) -> bool
         .any(|section| section.sh_type == abi::SHT_SYMTAB)
 }
 
-fn is_stripped(sections: &[SectionHeader]) -> bool
-    ensures { result ≡ is_stripped sections.now }
-{
-    !has_symbol_table(sections)
-}
-
 // ---- dynamic entries
-
-// Dynamic entries, with their strings if these were found.
-#[derive(Drop)]
-struct LinkEntries<'f> {
-    entries: Vec<Dyn>,
-    strings: Option<TerminatedStrings<'f>>,
-}
-
-// The entries, if they can be read. A file without any has no entries.
-fn known_entries<'f, W: Write, V: Write>(
-    alloc: Global,
-    found: FoundEntries<'f>,
-    report: &mut Report<'_, W, V>,
-) -> Result<Option<LinkEntries<'f>>, Stop>
-    ensures known { IfOk result (λ known. option_map link_view known
-        ≡ known_entries (ok_map (option_map entries_view) found.entry)) }
-    ensures wrong { OnOk result (report.new ≡ saying report.old
-        (entries_unread (ok_map (option_map entries_view) found.entry))) }
-{
-    match found {
-        Ok(
-            Some(
-                DynamicEntries {
-                    machine: _,
-                    entries,
-                    strings,
-                },
-            ),
-        ) => {
-            let strings = found_strings(strings, report)?;
-            Ok(Some(LinkEntries { entries, strings }))
-        }
-        Ok(None) => Ok(Some(LinkEntries {
-            entries: Vec::new(alloc),
-            strings: None,
-        })),
-        Err(error) => {
-            report.problem(Part::Dynamic.whole(), Fault::Read(error))?;
-            Ok(None)
-        }
-    }
-}
-
-fn entries_in<'a>(known: &'a Option<LinkEntries<'_>>) -> Option<&'a [Dyn]>
-    ensures { option_copied result ≡ option_map (λ k. k.0) (option_map link_view known.now) }
-{
-    match known {
-        Some(known) => Some(known.entries.as_slice()),
-        None => None,
-    }
-}
 
 // Whether the last entry with this tag has in its number a bit of the mask.
 fn has_flag(tag: i64, mask: u64, entries: &[Dyn]) -> bool
@@ -446,7 +283,7 @@ fn dynamic_kind(has_interpreter: bool, entries: &[Dyn]) -> FileKind
 }
 
 // What a file of this type is.
-fn file_kind(e_type: u16, segments: &[ProgramHeader], entries: Option<&[Dyn]>) -> Option<FileKind>
+fn kind_by(e_type: u16, segments: &[ProgramHeader], entries: Option<&[Dyn]>) -> Option<FileKind>
     ensures { result ≡ file_kind e_type segments.now (option_copied entries.entry) }
 {
     match e_type {
@@ -477,22 +314,48 @@ fn relro_of(segments: &[ProgramHeader], binds_now: Option<bool>) -> Option<Relro
 
 // ---- search paths
 
-// The string of the last entry with a tag, if there is one and it can be read.
-fn found_path<'f, W: Write, V: Write>(
-    tag: i64,
-    known: &Option<LinkEntries<'f>>,
-    report: &mut Report<'_, W, V>,
-) -> Result<Option<&'f [u8]>, Stop>
-    ensures path { IfOk result (λ path. option_copied path ≡ path_in tag (option_map link_view known.now)) }
-    ensures wrong { OnOk result (report.new ≡ saying report.old (path_missed tag (option_map link_view known.now))) }
+const NO_PATHS: SearchPaths<'static> = SearchPaths {
+    rpath: None,
+    runpath: None,
+};
+
+// The search paths that these entries name, if their strings can be found and these can be read.
+fn search_paths<'f, E: EndianParse, R: ListedFile<E>, T: Tell>(
+    file: &'f R,
+    entries: &[Dyn],
+    tell: &mut T,
+) -> Result<SearchPaths<'f>, Stop>
+    ensures paths { let strings = strings_by (file_of (R.file file.now) (R.bytes file.now)) entries.now in
+        IfOk result (λ paths. paths_view paths ≡ paths_of (Some (entries.now, result_ok strings))) }
+    ensures wrong { let strings = strings_by (file_of (R.file file.now) (R.bytes file.now)) entries.now in
+        let known = Some (entries.now, result_ok strings) in
+        OnOk result (tell.new ≡ saying T.one tell.old
+        (strings_missed strings ++ path_missed dt_rpath known ++ path_missed dt_runpath known)) }
 {
-    let Some(known) = known else {
+    let Some(strings) = found_strings(file, entries, tell)? else {
+        return Ok(NO_PATHS);
+    };
+    let rpath = path_of(abi::DT_RPATH, entries, &strings, tell)?;
+    let runpath = path_of(abi::DT_RUNPATH, entries, &strings, tell)?;
+    Ok(SearchPaths { rpath, runpath })
+}
+
+// The string of the last entry with a tag, if there is one and it can be read.
+fn path_of<'f, T: Tell>(
+    tag: i64,
+    entries: &[Dyn],
+    strings: &TerminatedStrings<'f>,
+    tell: &mut T,
+) -> Result<Option<&'f [u8]>, Stop>
+    ensures path { IfOk result (λ path. option_copied path ≡ path_at strings.now (last_tagged tag entries.now)) }
+    ensures wrong { OnOk result (tell.new ≡ saying T.one tell.old
+        (path_unread strings.now (last_tagged tag entries.now))) }
+{
+    let Some((number, offset)) = last_tagged(tag, entries) else {
         return Ok(None);
     };
-    let Some(strings) = &known.strings else {
-        return Ok(None);
-    };
-    path_at(strings, last_tagged(tag, known.entries.as_slice()), report)
+    let place = Part::Dynamic.item(Item::EntryName(number as u64));
+    readable(place, strings.get_raw(offset as usize), tell)
 }
 
 // The number of the last entry with a tag, and its value.
@@ -506,22 +369,6 @@ fn last_tagged(tag: i64, entries: &[Dyn]) -> Option<(usize, u64)>
         }
     }
     last
-}
-
-// The string of an entry with this number and this value, if it can be read.
-fn path_at<'f, W: Write, V: Write>(
-    strings: &TerminatedStrings<'f>,
-    entry: Option<(usize, u64)>,
-    report: &mut Report<'_, W, V>,
-) -> Result<Option<&'f [u8]>, Stop>
-    ensures path { IfOk result (λ path. option_copied path ≡ path_at strings.now entry) }
-    ensures wrong { OnOk result (report.new ≡ saying report.old (path_unread strings.now entry)) }
-{
-    let Some((number, offset)) = entry else {
-        return Ok(None);
-    };
-    let place = Part::Dynamic.item(Item::EntryName(number as u64));
-    report.readable(place, strings.get_raw(offset as usize))
 }
 
 // Whether a folder is neither absolute nor beside the file.
@@ -563,24 +410,26 @@ fn unsafe_path(entries: Option<&[Dyn]>, paths: SearchPaths<'_>) -> Option<bool>
 
 // ---- symbols
 
-// The symbols, if they can be read.
-fn known_symbols<'f, E: EndianParse, W: Write, V: Write>(
-    symbols: (Part, FoundSymbols<'f, E>),
-    report: &mut Report<'_, W, V>,
+// The symbols for dynamic linking, or if there are none all symbols, if they can be read.
+fn known_symbols<'f, E: EndianParse, R: ListedFile<E>, T: Tell>(
+    file: &'f R,
+    tell: &mut T,
 ) -> Result<Option<Symbols<'f, E>>, Stop>
     ensures symbols { IfOk result (λ known. option_map symbols_view known
-        ≡ if_read (ok_map (option_map symbols_view) symbols.entry.1)) }
-    ensures wrong { OnOk result (report.new ≡ saying report.old
-        (fault_said (whole symbols.entry.0) (ok_map (option_map symbols_view) symbols.entry.1))) }
+        ≡ if_read (symbols_of (file_of (R.file file.now) (R.bytes file.now))).1) }
+    ensures wrong { let found = symbols_of (file_of (R.file file.now) (R.bytes file.now)) in
+        OnOk result (tell.new ≡ saying T.one tell.old (fault_said (whole found.0) found.1)) }
 {
-    let (part, symbols) = symbols;
-    match symbols {
-        Ok(symbols) => Ok(symbols),
-        Err(fault) => {
-            report.problem(part.whole(), fault)?;
-            Ok(None)
-        }
-    }
+    let (part, fault) = match linked_symbols(file)? {
+        Ok(Some(symbols)) => return Ok(Some(symbols)),
+        Ok(None) => match taking::symbols(file)? {
+            Ok(symbols) => return Ok(symbols),
+            Err(fault) => (Part::Symbols, fault),
+        },
+        Err(fault) => (Part::DynamicSymbols, fault),
+    };
+    tell.problem(part.whole(), fault)?;
+    Ok(None)
 }
 
 /// Names of symbols that functions with a canary use: the function that is called if it was changed, the canary itself,
@@ -797,61 +646,71 @@ fn count_fortifiable<E: EndianParse>(symbols: &Option<Symbols<'_, E>>) -> Option
 // ---- the properties of code
 
 // The features, if they can be read. It is a problem if notes with properties cannot be read.
-fn known_features<E: EndianParse, W: Write, V: Write>(
-    order: E,
-    class: Class,
-    machine: u16,
-    properties: Option<PropertyBytes<'_>>,
-    report: &mut Report<'_, W, V>,
+fn known_features<E: EndianParse, R: ListedFile<E>, T: Tell>(
+    file: &R,
+    tell: &mut T,
 ) -> Result<Option<u64>, Stop>
-    ensures features { IfOk result (λ features. features
-        ≡ features_by (E.little order) class (feature_type machine) (option_map property_view properties.entry)) }
-    ensures wrong { OnOk result (report.new ≡ saying report.old
-        (properties_unread (option_map property_view properties.entry))) }
+    ensures features { let whole = file_of (R.file file.now) (R.bytes file.now) in IfOk result (λ features. features
+        ≡ features_by whole.little whole.class (feature_type (R.header file.now).e_machine) (properties_of whole)) }
+    ensures wrong { let whole = file_of (R.file file.now) (R.bytes file.now) in
+        OnOk result (tell.new ≡ saying T.one tell.old (properties_unread (properties_of whole))) }
 {
-    let features = features_by(order, class, feature_type(machine), &properties);
-    say_unread(properties, report)?;
-    Ok(features)
-}
-
-fn say_unread<W: Write, V: Write>(
-    properties: Option<PropertyBytes<'_>>,
-    report: &mut Report<'_, W, V>,
-) -> Result<(), Stop>
-    ensures { OnOk result (report.new ≡ saying report.old
-        (properties_unread (option_map property_view properties.entry))) }
-{
-    match properties {
-        Some(
-            PropertyBytes {
-                part,
-                align: _,
-                bytes,
-            },
-        ) => match bytes {
-            Ok(_) => Ok(()),
-            Err(error) => report.problem(part.whole(), Fault::Read(error)),
-        },
-        None => Ok(()),
+    if let Some((number, segment)) = property_segment(file.segment_list()) {
+        let bytes = taking::segment_data(file, &segment)?;
+        let part = Part::Segment(number as u64);
+        return noted_features(file, part, segment.p_align, bytes, tell);
+    }
+    match property_section(file)? {
+        Some((number, section)) => {
+            let bytes = taking::content(file, &section)?;
+            let part = Part::Section(number as u64);
+            noted_features(file, part, section.sh_addralign, bytes, tell)
+        }
+        None => Ok(feature_type(file.file_header().e_machine).map(|_| 0)),
     }
 }
 
-fn features_by<E: EndianParse>(
-    order: E,
-    class: Class,
-    wanted: Option<u32>,
-    properties: &Option<PropertyBytes<'_>>,
-) -> Option<u64>
-    ensures { result ≡ features_by (E.little order) class wanted (option_map property_view properties.now) }
+fn property_segment(segments: &[ProgramHeader]) -> Option<(usize, ProgramHeader)>
+    ensures { result ≡ property_segment segments.now }
 {
-    let wanted = wanted?;
-    match properties {
-        None => Some(0),
-        Some(found) => match &found.bytes {
-            Ok(bytes) => Some(features_of(order, class, wanted, found.align, *bytes)),
-            Err(_) => None,
-        },
-    }
+    segments
+        .iter()
+        .copied()
+        .enumerate()
+        .find(|one| one.1.p_type == abi::PT_GNU_PROPERTY)
+}
+
+fn property_section<E: EndianParse, R: ListedFile<E>>(
+    file: &R,
+) -> Result<Option<(usize, SectionHeader)>, Stop>
+    ensures { IfOk result (λ found. found ≡ property_section (file_of (R.file file.now) (R.bytes file.now))) }
+{
+    let names = known_names(file)?;
+    Ok(first_named(file.section_list(), &names, ".note.gnu.property"))
+}
+
+// The features in these bytes of notes of a part, which declare this alignment, if they can be read.
+fn noted_features<E: EndianParse, R: ListedFile<E>, T: Tell>(
+    file: &R,
+    part: Part,
+    align: u64,
+    bytes: Result<&[u8], ParseError>,
+    tell: &mut T,
+) -> Result<Option<u64>, Stop>
+    ensures features { let whole = file_of (R.file file.now) (R.bytes file.now) in IfOk result (λ features. features
+        ≡ features_by whole.little whole.class (feature_type (R.header file.now).e_machine)
+        (Some (part, align, ok_map (λ bytes. bytes.now) bytes.entry))) }
+    ensures wrong { OnOk result (tell.new ≡ saying T.one tell.old
+        (properties_unread (Some (part, align, ok_map (λ bytes. bytes.now) bytes.entry)))) }
+{
+    let Some(bytes) = readable(part.whole(), bytes, tell)? else {
+        return Ok(None);
+    };
+    let Some(wanted) = feature_type(file.file_header().e_machine) else {
+        return Ok(None);
+    };
+    let (order, class) = (file.endianness(), file.class());
+    Ok(Some(features_of(order, class, wanted, align, bytes)))
 }
 
 // The features in bytes of notes; without such a property the code has none.

@@ -2,5 +2,5 @@
 pub mod Chains
 -- the versions that are defined and needed
 pub mod VersionLists
--- what was taken, as the definitions have it
+-- versions as the definitions have them, and what is counted one by one
 pub mod inner

@@ -1,4 +1,4 @@
--- the chains of hash sections that were taken
+-- the symbols that lie in chains
 pub mod Chains
--- the versions that were taken
+-- the versions of a file, and the count of their auxiliary entries
 pub mod VersionLists

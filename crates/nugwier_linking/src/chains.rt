@@ -1,24 +1,24 @@
 //! The chains of hash sections: by the section headers; if a file declares none by its dynamic entries.
-ghost use Rattle.std.specs.Prelude.{◌≡◌, ◌<◌, ◌≤◌, ◌^◌, ◌∷◌, ◌++◌, [], sum, IfOk, OnOk};
+#![tactic(auto, using(nugwier_report::proofs::Saying::saying_both))]
+
+ghost use Rattle.std.specs.Prelude.{◌≡◌, ◌<◌, ◌≤◌, ◌^◌, ◌∷◌, [], codes, sum, IfOk, OnOk};
 ghost use Rattle.std.specs.List.{flat_map};
-ghost use Rattle.std.specs.Option.{option_map};
 ghost use Rattle.elf_abi.specs.declared.abi.TheConstants.{SHT_GNU_HASH, SHT_HASH};
 ghost use Rattle.elf_dynamic.specs.dynamic_view.Entries.{entries_in};
 ghost use Rattle.elf_parts.specs.Hash.{word_at};
 ghost use Rattle.elf_records.specs.Number.{ok_map};
 ghost use Rattle.elf_records.specs.Table.{table_view};
-ghost use Rattle.nugwier_linking.specs.Chains.{all_lengths, buckets_of, chain_length, chain_words_of, chains_of};
-ghost use Rattle.nugwier_linking.specs.Chains.{chains_at, chains_by, chains_in, chains_within, counted_after};
-ghost use Rattle.nugwier_linking.specs.Chains.{counts_from, entries_said, entry_said, found_entry_said, gnu_entry};
-ghost use Rattle.nugwier_linking.specs.Chains.{gnu_length};
-ghost use Rattle.nugwier_linking.specs.Chains.{hash_table, hash_view, one_more, said_of_chains};
-ghost use Rattle.nugwier_linking.specs.Chains.{section_chains_said, sysv_entry, sysv_length, word_read};
+ghost use Rattle.nugwier_linking.specs.Chains.{all_lengths, buckets_of, chain_length, chain_words_of, chains_by};
+ghost use Rattle.nugwier_linking.specs.Chains.{chains_in, chains_of, chains_within, counted_after, counts_from};
+ghost use Rattle.nugwier_linking.specs.Chains.{entry_said, found_entry_said, gnu_entry, gnu_length, hash_table};
+ghost use Rattle.nugwier_linking.specs.Chains.{hash_view, one_more, said_of_chains, section_chains_said, sysv_entry};
+ghost use Rattle.nugwier_linking.specs.Chains.{sysv_length, word_read};
+ghost use Rattle.nugwier_linking.specs.inner.Chains.{symbols_in};
+ghost use Rattle.nugwier_records.specs.Chains.{chains_view};
+ghost use Rattle.nugwier_report.specs.Labels.{label_name};
 ghost use Rattle.nugwier_report.specs.Said.{saying};
-ghost use Rattle.nugwier_taking.specs.Headings.{known_names};
 ghost use Rattle.nugwier_taking.specs.TypedSections.{sections_of};
 ghost use Rattle.nugwier_taking.specs.Whole.{file_of};
-ghost use Rattle.nugwier_linking.specs.inner.Chains.{part_said, symbols_in};
-ghost use Rattle.nugwier_records.specs.Chains.{chains_view};
 
 use elf::dynamic::DynamicTable;
 use elf::endian::EndianParse;
@@ -27,195 +27,140 @@ use elf::headers::Headers;
 use elf::parse::ParsingTable;
 use elf::reader::Reader;
 use elf::section::SectionHeader;
+use elf::string_table::TerminatedStrings;
 use elf::{ParseError, abi};
-use elf_dynamic::dynamic_view::DynamicError;
 use elf_dynamic::linked::LinkedBy;
-use nugwier_records::chains::{ChainCount, Chains, say_chains, say_entry_chains};
+use nugwier_records::chains::{ChainCount, Chains, tell_entry_chains};
 use nugwier_report::names::label_name;
 use nugwier_report::problem::{Fault, Part, Stop};
-use nugwier_report::report::Report;
+use nugwier_report::tell::Tell;
 use nugwier_taking::headings::known_names;
 use nugwier_taking::linked;
 use nugwier_taking::listed::ListedFile;
-use nugwier_taking::parts::TakenPart;
-use nugwier_taking::taking::NotTaken;
 use nugwier_taking::typed_sections::{HASH_TYPES, TypedSection, sections_of};
 use std::alloc::{AllocError, Global};
-use std::io::Write;
 
-// Where a hash section is: in a section, by its number and its name, or where the dynamic entry with this tag says.
-#[derive(Clone, Copy)]
-enum ChainsPlace<'f> {
-    Section(u64, &'f [u8]),
-    Entry(&'static str),
-}
-
-/// The chains of a hash section, with its place.
-#[derive(Drop)]
-pub struct ChainsPart<'f> {
-    place: ChainsPlace<'f>,
-    chains: Result<Chains, Fault<'static>>,
-}
-
-impl TakenPart for ChainsPart<'_> {
-    ghost said = { part_said };
-
-    fn say<W: Write, V: Write>(self, report: &mut Report<'_, W, V>) -> Result<(), Stop> {
-        let ChainsPart { place, chains } = self;
-        match place {
-            ChainsPlace::Section(number, name) => say_section(number, name, chains, report),
-            ChainsPlace::Entry(tag) => say_entry(tag, chains, report),
-        }
-    }
-}
-
-fn say_section<W: Write, V: Write>(
-    number: u64,
-    name: &[u8],
-    chains: Result<Chains, Fault<'static>>,
-    report: &mut Report<'_, W, V>,
-) -> Result<(), Stop>
-    ensures { OnOk result (report.new ≡ saying report.old
-        (section_chains_said number name.now (ok_map chains_view chains.entry))) }
-{
-    match chains {
-        Ok(chains) => say_chains(number, name, &chains, report),
-        Err(fault) => report.problem(Part::Section(number).whole(), fault),
-    }
-}
-
-fn say_entry<W: Write, V: Write>(
-    tag: &'static str,
-    chains: Result<Chains, Fault<'static>>,
-    report: &mut Report<'_, W, V>,
-) -> Result<(), Stop>
-    ensures { OnOk result (report.new ≡ saying report.old (entry_said tag.now (ok_map chains_view chains.entry))) }
-{
-    match chains {
-        Ok(chains) => say_entry_chains(tag, &chains, report),
-        Err(fault) => report.problem(Part::Dynamic.whole(), fault),
-    }
-}
-
-// A hash section of either kind.
-#[derive(Drop)]
-enum HashTable<'f, E: EndianParse> {
-    SysV(SysVHashTable<'f, E>),
-    Gnu(GnuHashTable<'f, E>),
-}
-
-// The words of buckets or of chains.
-type Words<'f, E> = ParsingTable<'f, E, u32>;
-
-/// Takes the chains of each hash section; if the file declares no sections those that dynamic entries give.
-pub fn take_chains<'f, E: EndianParse, R: ListedFile<E>>(
+/// Tells the chains of each hash section; if the file declares no sections those that dynamic entries give. They are
+/// walked and counted only if something comes of what is told.
+pub fn tell_chains<E: EndianParse, R: ListedFile<E>, T: Tell>(
     alloc: Global,
-    file: &'f R,
-) -> Result<Vec<ChainsPart<'f>>, NotTaken>
-    ensures { IfOk result (λ parts. flat_map part_said parts.items
-        ≡ said_of_chains (file_of (R.file file.now) (R.bytes file.now))) }
+    file: &R,
+    tell: &mut T,
+) -> Result<(), Stop>
+    ensures { OnOk result (tell.new ≡ saying T.one tell.old
+        (said_of_chains (file_of (R.file file.now) (R.bytes file.now)))) }
 {
-    let mut parts = Vec::new(alloc);
     match linked::linked_by(file)? {
-        Ok(LinkedBy::Sections) => return take_sections(alloc, file),
-        Ok(LinkedBy::Entries(entries)) => add_entries(alloc, file, &entries, &mut parts)?,
-        Ok(LinkedBy::Nothing) => {}
-        Err(error) => parts.push(ChainsPart {
-            place: ChainsPlace::Entry(SYSV),
-            chains: Err(Fault::Linked(error)),
-        })?,
+        Ok(LinkedBy::Sections) => tell_sections(alloc, file, tell),
+        Ok(LinkedBy::Entries(entries)) => {
+            tell_sysv_entry(alloc, file, &entries, tell)?;
+            tell_gnu_entry(alloc, file, &entries, tell)
+        }
+        Ok(LinkedBy::Nothing) => Ok(()),
+        Err(error) => tell.problem(Part::Dynamic.whole(), Fault::Linked(error)),
     }
-    Ok(parts)
 }
 
-// The tags of the dynamic entries that give the addresses of hash sections.
-const SYSV: &str = "DT_HASH";
+// ---- of dynamic entries
 
-const GNU: &str = "DT_GNU_HASH";
-
-// Adds the chains of the hash sections whose addresses the entries give.
-fn add_entries<'f, E: EndianParse, R: ListedFile<E>>(
+// Tells the chains of the hash table whose address the entry `DT_HASH` gives, if there is one.
+fn tell_sysv_entry<E: EndianParse, R: ListedFile<E>, T: Tell>(
     alloc: Global,
     file: &R,
     entries: &DynamicTable<'_, E>,
-    parts: &mut Vec<ChainsPart<'f>>,
-) -> Result<(), NotTaken>
-    ensures { OnOk result (flat_map part_said parts.new.items ≡ flat_map part_said parts.old.items
-        ++ entries_said (file_of (R.file file.now) (R.bytes file.now)) (entries_in (table_view entries.now))) }
+    tell: &mut T,
+) -> Result<(), Stop>
+    ensures { OnOk result (tell.new ≡ saying T.one tell.old (found_entry_said (codes "DT_HASH")
+        (sysv_entry (file_of (R.file file.now) (R.bytes file.now)) (entries_in (table_view entries.now))))) }
 {
-    add_entry(alloc, SYSV, sysv_entry(file, entries)?, parts)?;
-    add_entry(alloc, GNU, gnu_entry(file, entries)?, parts)
+    match linked::sysv_hash(file, entries)? {
+        Ok(Some(table)) => tell_entry(alloc, "DT_HASH", &HashTable::SysV(table), tell),
+        Ok(None) => Ok(()),
+        Err(error) => tell.problem(Part::Dynamic.whole(), Fault::Linked(error)),
+    }
 }
 
-// Adds the chains of the hash section that the entry with this tag gives, if it was found.
-fn add_entry<'f, E: EndianParse>(
+// The same of the entry `DT_GNU_HASH`.
+fn tell_gnu_entry<E: EndianParse, R: ListedFile<E>, T: Tell>(
+    alloc: Global,
+    file: &R,
+    entries: &DynamicTable<'_, E>,
+    tell: &mut T,
+) -> Result<(), Stop>
+    ensures { OnOk result (tell.new ≡ saying T.one tell.old (found_entry_said (codes "DT_GNU_HASH")
+        (gnu_entry (file_of (R.file file.now) (R.bytes file.now)) (entries_in (table_view entries.now))))) }
+{
+    match linked::gnu_hash(file, entries)? {
+        Ok(Some(table)) => tell_entry(alloc, "DT_GNU_HASH", &HashTable::Gnu(table), tell),
+        Ok(None) => Ok(()),
+        Err(error) => tell.problem(Part::Dynamic.whole(), Fault::Linked(error)),
+    }
+}
+
+// Tells the chains of the hash table that the entry with this tag gives.
+fn tell_entry<E: EndianParse, T: Tell>(
     alloc: Global,
     tag: &'static str,
-    found: Result<Option<HashTable<'_, E>>, DynamicError>,
-    parts: &mut Vec<ChainsPart<'f>>,
-) -> Result<(), NotTaken>
-    ensures { OnOk result (flat_map part_said parts.new.items ≡ flat_map part_said parts.old.items
-        ++ found_entry_said tag.now (ok_map (option_map hash_view) found.entry)) }
+    table: &HashTable<'_, E>,
+    tell: &mut T,
+) -> Result<(), Stop>
+    ensures { OnOk result (tell.new ≡ saying T.one tell.old (entry_said tag.now (chains_in (hash_view table.now)))) }
 {
-    let chains = match found {
-        Ok(Some(table)) => table.counted(alloc)?,
-        Ok(None) => return Ok(()),
-        Err(error) => Err(Fault::Linked(error)),
-    };
-    let place = ChainsPlace::Entry(tag);
-    parts.push(ChainsPart { place, chains })?;
+    if tell.is_silent() {
+        return Ok(());
+    }
+    match table.counted(alloc)? {
+        Ok(chains) => tell_entry_chains(tag, &chains, tell),
+        Err(fault) => tell.problem(Part::Dynamic.whole(), fault),
+    }
+}
+
+// ---- of sections
+
+fn tell_sections<E: EndianParse, R: ListedFile<E>, T: Tell>(
+    alloc: Global,
+    file: &R,
+    tell: &mut T,
+) -> Result<(), Stop>
+    ensures { let whole = file_of (R.file file.now) (R.bytes file.now) in
+        OnOk result (tell.new ≡ saying T.one tell.old
+        (flat_map (chains_of whole) (sections_of whole (SHT_HASH ∷ SHT_GNU_HASH ∷ [])))) }
+{
+    let names = known_names(file)?;
+    for section in sections_of(alloc, file, &HASH_TYPES)? {
+        tell_section(alloc, file, &names, section, tell)?;
+    }
     Ok(())
 }
 
-fn sysv_entry<'f, E: EndianParse, R: ListedFile<E>>(
-    file: &'f R,
-    entries: &DynamicTable<'_, E>,
-) -> Result<Result<Option<HashTable<'f, E>>, DynamicError>, NotTaken>
-    ensures { IfOk result (λ found. ok_map (option_map hash_view) found
-        ≡ sysv_entry (file_of (R.file file.now) (R.bytes file.now)) (entries_in (table_view entries.now))) }
-{
-    match linked::sysv_hash(file, entries)? {
-        Ok(Some(table)) => Ok(Ok(Some(HashTable::SysV(table)))),
-        Ok(None) => Ok(Ok(None)),
-        Err(error) => Ok(Err(error)),
-    }
-}
-
-fn gnu_entry<'f, E: EndianParse, R: ListedFile<E>>(
-    file: &'f R,
-    entries: &DynamicTable<'_, E>,
-) -> Result<Result<Option<HashTable<'f, E>>, DynamicError>, NotTaken>
-    ensures { IfOk result (λ found. ok_map (option_map hash_view) found
-        ≡ gnu_entry (file_of (R.file file.now) (R.bytes file.now)) (entries_in (table_view entries.now))) }
-{
-    match linked::gnu_hash(file, entries)? {
-        Ok(Some(table)) => Ok(Ok(Some(HashTable::Gnu(table)))),
-        Ok(None) => Ok(Ok(None)),
-        Err(error) => Ok(Err(error)),
-    }
-}
-
-fn take_sections<'f, E: EndianParse, R: ListedFile<E>>(
+// Tells the chains of a section, with its name by these names, or why they are not listed.
+fn tell_section<E: EndianParse, R: ListedFile<E>, T: Tell>(
     alloc: Global,
-    file: &'f R,
-) -> Result<Vec<ChainsPart<'f>>, NotTaken>
-    ensures { let whole = file_of (R.file file.now) (R.bytes file.now) in
-        IfOk result (λ parts. flat_map part_said parts.items
-        ≡ flat_map (chains_of whole) (sections_of whole (SHT_HASH ∷ SHT_GNU_HASH ∷ []))) }
+    file: &R,
+    names: &Option<TerminatedStrings<'_>>,
+    section: TypedSection<'_>,
+    tell: &mut T,
+) -> Result<(), Stop>
+    ensures { OnOk result (tell.new ≡ saying T.one tell.old (section_chains_said section.entry.number
+        (label_name names.now section.entry.header)
+        (chains_within (file_of (R.file file.now) (R.bytes file.now)) section.entry.header
+        (ok_map (λ bytes. bytes.now) section.entry.bytes)))) }
 {
-    let names = known_names(file)?;
-    let mut parts = Vec::new(alloc);
-    for section in sections_of(alloc, file, &HASH_TYPES)? {
-        let TypedSection {
-            number,
-            header,
-            bytes,
-        } = section;
-        let chains = chains_within(alloc, file, &header, bytes)?;
-        let place = ChainsPlace::Section(number, label_name(&names, &header));
-        parts.push(ChainsPart { place, chains })?;
+    let TypedSection {
+        number,
+        header,
+        bytes,
+    } = section;
+    if tell.is_silent() {
+        return Ok(());
     }
-    Ok(parts)
+    match chains_within(alloc, file, &header, bytes)? {
+        Ok(chains) => {
+            let name = label_name(names, &header);
+            nugwier_records::chains::tell_chains(number, name, &chains, tell)
+        }
+        Err(fault) => tell.problem(Part::Section(number).whole(), fault),
+    }
 }
 
 // The chains of a section with these bytes, if they are listed.
@@ -224,31 +169,32 @@ fn chains_within<E: EndianParse, R: ListedFile<E>>(
     file: &R,
     section: &SectionHeader,
     bytes: Result<&[u8], Fault<'static>>,
-) -> Result<Result<Chains, Fault<'static>>, NotTaken>
+) -> Result<Result<Chains, Fault<'static>>, AllocError>
     ensures { IfOk result (λ found. ok_map chains_view found
         ≡ chains_within (file_of (R.file file.now) (R.bytes file.now)) section.now
         (ok_map (λ bytes. bytes.now) bytes.entry)) }
 {
-    match bytes {
-        Ok(bytes) => chains_at(alloc, file, section, bytes),
-        Err(fault) => Ok(Err(fault)),
-    }
-}
-
-fn chains_at<E: EndianParse, R: ListedFile<E>>(
-    alloc: Global,
-    file: &R,
-    section: &SectionHeader,
-    bytes: &[u8],
-) -> Result<Result<Chains, Fault<'static>>, NotTaken>
-    ensures { IfOk result (λ found. ok_map chains_view found
-        ≡ chains_at (file_of (R.file file.now) (R.bytes file.now)) section.now bytes.now) }
-{
+    let bytes = match bytes {
+        Ok(bytes) => bytes,
+        Err(fault) => return Ok(Err(fault)),
+    };
     match hash_table(file, section, bytes) {
-        Ok(table) => Ok(table.counted(alloc)?),
+        Ok(table) => table.counted(alloc),
         Err(error) => Ok(Err(Fault::Read(error))),
     }
 }
+
+// ---- hash tables
+
+// A hash table of either kind.
+#[derive(Drop)]
+enum HashTable<'f, E: EndianParse> {
+    SysV(SysVHashTable<'f, E>),
+    Gnu(GnuHashTable<'f, E>),
+}
+
+// The words of buckets or of chains.
+type Words<'f, E> = ParsingTable<'f, E, u32>;
 
 // The hash section with these bytes.
 fn hash_table<'f, E: EndianParse, R: ListedFile<E>>(
@@ -269,21 +215,14 @@ fn hash_table<'f, E: EndianParse, R: ListedFile<E>>(
 }
 
 impl<'f, E: EndianParse> HashTable<'f, E> {
-    fn buckets(&self) -> Words<'f, E>
-        ensures { table_view result ≡ buckets_of (hash_view self.now) }
+    // The words of the buckets, and those of the chains.
+    fn words(&self) -> (Words<'f, E>, Words<'f, E>)
+        ensures buckets { table_view result.0 ≡ buckets_of (hash_view self.now) }
+        ensures chains { table_view result.1 ≡ chain_words_of (hash_view self.now) }
     {
         match self {
-            HashTable::SysV(table) => table.buckets(),
-            HashTable::Gnu(table) => table.buckets(),
-        }
-    }
-
-    fn chain_words(&self) -> Words<'f, E>
-        ensures { table_view result ≡ chain_words_of (hash_view self.now) }
-    {
-        match self {
-            HashTable::SysV(table) => table.chains(),
-            HashTable::Gnu(table) => table.chains(),
+            HashTable::SysV(table) => (table.buckets(), table.chains()),
+            HashTable::Gnu(table) => (table.buckets(), table.chains()),
         }
     }
 
@@ -292,7 +231,7 @@ impl<'f, E: EndianParse> HashTable<'f, E> {
         ensures { IfOk result (λ found. ok_map chains_view found ≡ chains_in (hash_view self.now)) }
     {
         match self.lengths(alloc)? {
-            Ok(lengths) => Ok(Ok(chains_by(alloc, lengths)?)),
+            Ok(lengths) => Ok(Ok(chains_by(alloc, lengths.as_slice())?)),
             Err(fault) => Ok(Err(fault)),
         }
     }
@@ -304,9 +243,10 @@ impl<'f, E: EndianParse> HashTable<'f, E> {
             ok_map (λ lengths. lengths.items) found ≡ all_lengths (hash_view self.now)) }
         ensures few { IfOk result (λ found. IfOk found (λ lengths. sum lengths.items < 2 ^ 63)) }
     {
+        let (buckets, words) = self.words();
         let mut lengths = Vec::new(alloc);
-        let mut left = self.chain_words().len();
-        for first in self.buckets().iter() {
+        let mut left = words.len();
+        for first in buckets.iter() {
             match self.chain_length(left, first) {
                 Ok(length) => {
                     lengths.push(length)?;
@@ -388,14 +328,14 @@ fn gnu_length<E: EndianParse>(
 
 // How many of these chains have each length.
 #[tactic(auto, using(crate::proofs::Counting::symbols_counted))]
-fn chains_by(alloc: Global, lengths: Vec<usize>) -> Result<Chains, AllocError>
-    requires { sum lengths.items < 2 ^ 63 }
-    ensures { IfOk result (λ chains. chains_view chains ≡ chains_by lengths.items) }
+fn chains_by(alloc: Global, lengths: &[usize]) -> Result<Chains, AllocError>
+    requires { sum lengths.now < 2 ^ 63 }
+    ensures { IfOk result (λ chains. chains_view chains ≡ chains_by lengths.now) }
 {
-    let counts = counted(alloc, lengths.as_slice())?;
+    let counts = counted(alloc, lengths)?;
     let all = ChainCount {
         buckets: lengths.len() as u64,
-        symbols: symbol_count(lengths.as_slice()),
+        symbols: symbol_count(lengths),
     };
     let lengths = counts_in(alloc, counts.as_slice())?;
     Ok(Chains { lengths, all })

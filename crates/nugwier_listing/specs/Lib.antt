@@ -1,5 +1,3 @@
--- what was taken, as the definitions have it
-pub mod inner
 pub mod Job
 -- the names that problems are told with
 pub mod Labels

@@ -5,43 +5,33 @@ ghost use Rattle.nugwier_taking.specs.Whole.{file_of};
 ghost use Rattle.nugwier_words.specs.Words.{task_of};
 
 use elf::endian::EndianParse;
-use elf::string_table::TerminatedStrings;
 use nugwier_report::names::Labels;
+use nugwier_report::problem::Stop;
 use nugwier_taking::headings::known_names;
 use nugwier_taking::listed::ListedFile;
-use nugwier_taking::taking::NotTaken;
 use nugwier_words::words::{Command, Job, Parts};
 
-/// Takes the sections of a file, with their names if problems of this job are told with them, and if they can be
+/// Returns the sections of a file, with their names if problems of this job are told with them, and if they can be
 /// read.
-pub fn take_labels<'f, E: EndianParse, R: ListedFile<E>>(
+pub fn labels_of<'f, E: EndianParse, R: ListedFile<E>>(
     job: &Job<'_>,
     file: &'f R,
-) -> Result<Labels<'f>, NotTaken>
+) -> Result<Labels<'f>, Stop>
     ensures class { IfOk result (λ labels. labels.class ≡ (R.file file.now).class) }
     ensures sections { IfOk result (λ labels. labels.sections.now ≡ (R.file file.now).sections) }
     ensures names { IfOk result (λ labels. labels.names
         ≡ names_told (task_of job.now) (file_of (R.file file.now) (R.bytes file.now))) }
 {
-    let names = names_told(job, file)?;
+    let names = if tells_sections(job) {
+        known_names(file)?
+    } else {
+        None
+    };
     Ok(Labels {
         class: file.class(),
         sections: file.section_list(),
         names,
     })
-}
-
-fn names_told<'f, E: EndianParse, R: ListedFile<E>>(
-    job: &Job<'_>,
-    file: &'f R,
-) -> Result<Option<TerminatedStrings<'f>>, NotTaken>
-    ensures { IfOk result (λ names. names
-        ≡ names_told (task_of job.now) (file_of (R.file file.now) (R.bytes file.now))) }
-{
-    if !tells_sections(job) {
-        return Ok(None);
-    }
-    known_names(file)
 }
 
 // Whether something of a section can be wrong. Headers alone need no names, which may be far away in a large file.

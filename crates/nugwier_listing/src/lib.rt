@@ -1,5 +1,5 @@
-//! What `nugwier` says of one file. What is read of the file is taken first (`nugwier_taking`), so nothing is read while
-//! it is said.
+//! What `nugwier` tells of one file. A file that is read by parts is told only after a walk with a silent teller has found
+//! nothing missing.
 #![tactic(auto)]
 
 pub mod job;

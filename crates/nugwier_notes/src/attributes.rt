@@ -1,4 +1,6 @@
 //! What is said of build attributes.
+#![tactic(auto, using(nugwier_report::proofs::Saying::saying_both))]
+
 ghost use Rattle.std.specs.Prelude.{◌≡◌, OnOk};
 ghost use Rattle.std.specs.Option.{option_copied};
 ghost use Rattle.elf_attributes.specs.Attributes.{attribute_view, subsection_view};
@@ -19,10 +21,9 @@ use elf_attributes::leb128::{after_list, first_number};
 use elf_names::attributes::{attribute_tag_name, attribute_value_name, scope_name};
 use nugwier_report::hardening::number_value;
 use nugwier_report::problem::{Fault, Part, Stop};
-use nugwier_report::report::Report;
+use nugwier_report::tell::Tell;
 use nugwier_writing::json::{Member, Value};
 use nugwier_writing::kind::Kind;
-use std::io::Write;
 
 /// Where attributes are: the machine of the file, the number of their section, the name of their vendor, and the tag that
 /// says what they are of.
@@ -35,39 +36,35 @@ pub struct AttributePlace<'a> {
 }
 
 /// Says the build attributes of a section, by its number.
-pub fn say_build_attributes<W: Write, V: Write>(
+pub fn tell_build_attributes<T: Tell>(
     file: NoteFile,
     section: u64,
     bytes: &[u8],
-    report: &mut Report<'_, W, V>,
+    tell: &mut T,
 ) -> Result<(), Stop>
-    ensures { OnOk result (report.new ≡ saying report.old (build_attributes_said section (file, bytes.now))) }
+    ensures { OnOk result (tell.new ≡ saying T.one tell.old (build_attributes_said section (file, bytes.now))) }
 {
     match subsections_of(bytes) {
-        Ok(subsections) => say_subsections(file, section, subsections, report),
-        Err(error) => say_error(section, error, report),
+        Ok(subsections) => tell_subsections(file, section, subsections, tell),
+        Err(error) => tell_error(section, error, tell),
     }
 }
 
-fn say_error<W: Write, V: Write>(
-    section: u64,
-    error: AttributeError,
-    report: &mut Report<'_, W, V>,
-) -> Result<(), Stop>
-    ensures { OnOk result (report.new ≡ saying report.old (attributes_wrong section error)) }
+fn tell_error<T: Tell>(section: u64, error: AttributeError, tell: &mut T) -> Result<(), Stop>
+    ensures { OnOk result (tell.new ≡ saying T.one tell.old (attributes_wrong section error)) }
 {
-    report.problem(Part::Section(section).whole(), Fault::Attributes(error))
+    tell.problem(Part::Section(section).whole(), Fault::Attributes(error))
 }
 
 // ---- subsections
 
-fn say_subsections<W: Write, V: Write>(
+fn tell_subsections<T: Tell>(
     file: NoteFile,
     section: u64,
     bytes: &[u8],
-    report: &mut Report<'_, W, V>,
+    tell: &mut T,
 ) -> Result<(), Stop>
-    ensures { OnOk result (report.new ≡ saying report.old (subsections_said file section bytes.now bytes.now)) }
+    ensures { OnOk result (tell.new ≡ saying T.one tell.old (subsections_said file section bytes.now bytes.now)) }
 {
     let mut rest = bytes;
     let mut left = bytes;
@@ -77,47 +74,47 @@ fn say_subsections<W: Write, V: Write>(
         }
         let (subsection, after) = match first_subsection(file.order(), rest) {
             Ok(found) => found,
-            Err(error) => return say_error(section, error, report),
+            Err(error) => return tell_error(section, error, tell),
         };
-        say_subsection(file, section, subsection, report)?;
+        tell_subsection(file, section, subsection, tell)?;
         rest = after;
         left = others;
     }
     Ok(())
 }
 
-fn say_subsection<W: Write, V: Write>(
+fn tell_subsection<T: Tell>(
     file: NoteFile,
     section: u64,
     subsection: Subsection<'_>,
-    report: &mut Report<'_, W, V>,
+    tell: &mut T,
 ) -> Result<(), Stop>
-    ensures { OnOk result (report.new ≡ saying report.old
+    ensures { OnOk result (tell.new ≡ saying T.one tell.old
         (subsection_said file section (subsection_view subsection.entry))) }
 {
     let Subsection { vendor, content } = subsection;
     if let Some(known) = vendor_of(vendor) {
-        return say_scopes(file, section, vendor, known, content, report);
+        return tell_scopes(file, section, vendor, known, content, tell);
     }
     let members = [
         ("section", Value::Number(section)),
         ("vendor", Value::Text(Some(subsection.vendor))),
         ("content", Value::Bytes(subsection.content)),
     ];
-    report.state(Kind::VendorAttributes, &members)
+    tell.state(Kind::VendorAttributes, &members)
 }
 
 // ---- what attributes are of
 
-fn say_scopes<W: Write, V: Write>(
+fn tell_scopes<T: Tell>(
     file: NoteFile,
     section: u64,
     vendor: &[u8],
     known: Vendor,
     bytes: &[u8],
-    report: &mut Report<'_, W, V>,
+    tell: &mut T,
 ) -> Result<(), Stop>
-    ensures { OnOk result (report.new ≡ saying report.old
+    ensures { OnOk result (tell.new ≡ saying T.one tell.old
         (scopes_said file section vendor.now known bytes.now bytes.now)) }
 {
     let mut rest = bytes;
@@ -128,7 +125,7 @@ fn say_scopes<W: Write, V: Write>(
         }
         let (scope, after) = match first_scope(file.order(), rest) {
             Ok(found) => found,
-            Err(error) => return say_error(section, error, report),
+            Err(error) => return tell_error(section, error, tell),
         };
         let place = AttributePlace {
             machine: file.machine,
@@ -136,7 +133,7 @@ fn say_scopes<W: Write, V: Write>(
             vendor,
             scope: scope.tag,
         };
-        say_scope(place, known, scope.content, report)?;
+        tell_scope(place, known, scope.content, tell)?;
         rest = after;
         left = others;
     }
@@ -154,21 +151,21 @@ fn scope_members(place: AttributePlace<'_>) -> [Member<'_>; 4]
     ]
 }
 
-fn say_scope<W: Write, V: Write>(
+fn tell_scope<T: Tell>(
     place: AttributePlace<'_>,
     known: Vendor,
     bytes: &[u8],
-    report: &mut Report<'_, W, V>,
+    tell: &mut T,
 ) -> Result<(), Stop>
-    ensures { OnOk result (report.new ≡ saying report.old (scope_said (place_view place.entry) known bytes.now)) }
+    ensures { OnOk result (tell.new ≡ saying T.one tell.old (scope_said (place_view place.entry) known bytes.now)) }
 {
-    report.state(Kind::AttributeScope, &scope_members(place))?;
+    tell.state(Kind::AttributeScope, &scope_members(place))?;
     // the numbers of sections or of symbols come before the attributes
     if place.scope == 2 || place.scope == 3 {
-        say_targets(place, bytes, report)?;
-        say_listed(place, known, after_list(bytes), report)
+        tell_targets(place, bytes, tell)?;
+        tell_listed(place, known, after_list(bytes), tell)
     } else if place.scope == 1 {
-        say_attributes(place, known, bytes, report)
+        tell_attributes(place, known, bytes, tell)
     } else {
         Ok(())
     }
@@ -187,12 +184,8 @@ fn target_members(place: AttributePlace<'_>, number: u64) -> [Member<'_>; 5]
 }
 
 // Says the numbers before a number 0.
-fn say_targets<W: Write, V: Write>(
-    place: AttributePlace<'_>,
-    bytes: &[u8],
-    report: &mut Report<'_, W, V>,
-) -> Result<(), Stop>
-    ensures { OnOk result (report.new ≡ saying report.old
+fn tell_targets<T: Tell>(place: AttributePlace<'_>, bytes: &[u8], tell: &mut T) -> Result<(), Stop>
+    ensures { OnOk result (tell.new ≡ saying T.one tell.old
         (targets_said (place_view place.entry) bytes.now bytes.now)) }
 {
     let mut rest = bytes;
@@ -204,7 +197,7 @@ fn say_targets<W: Write, V: Write>(
         if number == 0 {
             return Ok(());
         }
-        report.state(Kind::AttributeTarget, &target_members(place, number))?;
+        tell.state(Kind::AttributeTarget, &target_members(place, number))?;
         rest = after;
         left = others;
     }
@@ -212,30 +205,30 @@ fn say_targets<W: Write, V: Write>(
 }
 
 // Says the attributes after numbers, if these end.
-fn say_listed<W: Write, V: Write>(
+fn tell_listed<T: Tell>(
     place: AttributePlace<'_>,
     known: Vendor,
     listed: Result<&[u8], AttributeError>,
-    report: &mut Report<'_, W, V>,
+    tell: &mut T,
 ) -> Result<(), Stop>
-    ensures { OnOk result (report.new ≡ saying report.old
+    ensures { OnOk result (tell.new ≡ saying T.one tell.old
         (listed_said (place_view place.entry) known (ok_map (λ bytes. bytes.now) listed.entry))) }
 {
     match listed {
-        Ok(bytes) => say_attributes(place, known, bytes, report),
-        Err(error) => say_error(place.section, error, report),
+        Ok(bytes) => tell_attributes(place, known, bytes, tell),
+        Err(error) => tell_error(place.section, error, tell),
     }
 }
 
 // ---- attributes
 
-fn say_attributes<W: Write, V: Write>(
+fn tell_attributes<T: Tell>(
     place: AttributePlace<'_>,
     known: Vendor,
     bytes: &[u8],
-    report: &mut Report<'_, W, V>,
+    tell: &mut T,
 ) -> Result<(), Stop>
-    ensures { OnOk result (report.new ≡ saying report.old
+    ensures { OnOk result (tell.new ≡ saying T.one tell.old
         (attributes_said (place_view place.entry) known bytes.now bytes.now)) }
 {
     let mut rest = bytes;
@@ -246,9 +239,9 @@ fn say_attributes<W: Write, V: Write>(
         }
         let (attribute, after) = match first_attribute(known, rest) {
             Ok(found) => found,
-            Err(error) => return say_error(place.section, error, report),
+            Err(error) => return tell_error(place.section, error, tell),
         };
-        say_attribute(place, attribute, report)?;
+        tell_attribute(place, attribute, tell)?;
         rest = after;
         left = others;
     }
@@ -304,16 +297,16 @@ fn attribute_kind(has_number: bool, has_name: bool, has_text: bool) -> Kind
     }
 }
 
-fn say_attribute<W: Write, V: Write>(
+fn tell_attribute<T: Tell>(
     place: AttributePlace<'_>,
     attribute: Attribute<'_>,
-    report: &mut Report<'_, W, V>,
+    tell: &mut T,
 ) -> Result<(), Stop>
-    ensures { OnOk result (report.new ≡ saying report.old
+    ensures { OnOk result (tell.new ≡ saying T.one tell.old
         (attribute_said (place_view place.entry) (attribute_view attribute.entry))) }
 {
     let Attribute { tag, number, text } = attribute;
     let name = number_name(place.vendor, tag, number);
     let kind = attribute_kind(number.is_some(), name.is_some(), text.is_some());
-    report.state(kind, &attribute_members(place, attribute))
+    tell.state(kind, &attribute_members(place, attribute))
 }

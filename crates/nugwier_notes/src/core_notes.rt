@@ -1,4 +1,6 @@
 //! The notes of the owner `CORE`, which describe a process that Linux wrote into a core file.
+#![tactic(auto, using(nugwier_report::proofs::Saying::saying_both))]
+
 ghost use Rattle.std.specs.Prelude.{◌≡◌, ◌==◌, OnOk};
 ghost use Rattle.elf_names.specs.Table.{rows_of};
 ghost use Rattle.nugwier_notes.specs.CoreNotes.{auxiliary_said, auxiliary_types, core_said, core_sizes, entries_said};
@@ -18,11 +20,10 @@ use elf_names::table::{Names, name_in};
 use elf_parts::endian::EndianParse;
 use elf_parts::file::Class;
 use nugwier_report::problem::{Part, Stop, part_member};
-use nugwier_report::report::Report;
+use nugwier_report::tell::Tell;
 use nugwier_writing::json::{Member, Value};
 use nugwier_writing::kind::Kind;
 use nugwier_writing::slices::{first_of, rest_of};
-use std::io::Write;
 
 /// Whether a note describes a process.
 pub(crate) fn is_core_note(name: &[u8]) -> bool
@@ -32,22 +33,22 @@ pub(crate) fn is_core_note(name: &[u8]) -> bool
 }
 
 /// Says what the descriptor of such a note holds, by the number of the note.
-pub(crate) fn say_core_note<W: Write, V: Write>(
+pub(crate) fn tell_core_note<T: Tell>(
     file: NoteFile,
     part: Part,
     number: u64,
     n_type: u64,
     bytes: &[u8],
-    report: &mut Report<'_, W, V>,
+    tell: &mut T,
 ) -> Result<(), Stop>
-    ensures { OnOk result (report.new ≡ saying report.old (core_said file part number n_type bytes.now)) }
+    ensures { OnOk result (tell.new ≡ saying T.one tell.old (core_said file part number n_type bytes.now)) }
 {
     match n_type {
-        abi::NT_PRSTATUS => say_status(part, number, status_in(file, bytes), report),
-        abi::NT_PRPSINFO => say_process(file, part, number, bytes, report),
-        abi::NT_AUXV => say_auxiliary(file, part, number, bytes, report),
-        abi::NT_SIGINFO => say_signal(part, number, signal_in(file, bytes), report),
-        abi::NT_FILE => say_files(file, part, number, bytes, files_in(file, bytes), report),
+        abi::NT_PRSTATUS => tell_status(part, number, status_in(file, bytes), tell),
+        abi::NT_PRPSINFO => tell_process(file, part, number, bytes, tell),
+        abi::NT_AUXV => tell_auxiliary(file, part, number, bytes, tell),
+        abi::NT_SIGINFO => tell_signal(part, number, signal_in(file, bytes), tell),
+        abi::NT_FILE => tell_files(file, part, number, bytes, files_in(file, bytes), tell),
         _ => Ok(()),
     }
 }
@@ -120,16 +121,16 @@ fn is_n32_status(file: NoteFile, bytes: &[u8]) -> bool
     matches!(file.class, Class::ELF32) && file.machine == abi::EM_MIPS && bytes.len() == 440
 }
 
-fn say_status<W: Write, V: Write>(
+fn tell_status<T: Tell>(
     part: Part,
     number: u64,
     status: Option<ProcessStatus>,
-    report: &mut Report<'_, W, V>,
+    tell: &mut T,
 ) -> Result<(), Stop>
-    ensures { OnOk result (report.new ≡ saying report.old (said_if (status_said part number) status)) }
+    ensures { OnOk result (tell.new ≡ saying T.one tell.old (said_if (status_said part number) status)) }
 {
     match status {
-        Some(status) => { report.state(Kind::ProcessStatus, &status_members(part, number, status)) }
+        Some(status) => { tell.state(Kind::ProcessStatus, &status_members(part, number, status)) }
         None => Ok(()),
     }
 }
@@ -170,17 +171,17 @@ fn process_members(part: Part, number: u64, bytes: &[u8]) -> [Member<'_>; 4]
     ]
 }
 
-fn say_process<W: Write, V: Write>(
+fn tell_process<T: Tell>(
     file: NoteFile,
     part: Part,
     number: u64,
     bytes: &[u8],
-    report: &mut Report<'_, W, V>,
+    tell: &mut T,
 ) -> Result<(), Stop>
-    ensures { OnOk result (report.new ≡ saying report.old (process_said file part number bytes.now)) }
+    ensures { OnOk result (tell.new ≡ saying T.one tell.old (process_said file part number bytes.now)) }
 {
     if is_process(file, bytes) {
-        report.state(Kind::ProcessInfo, &process_members(part, number, bytes))
+        tell.state(Kind::ProcessInfo, &process_members(part, number, bytes))
     } else {
         Ok(())
     }
@@ -231,16 +232,16 @@ fn signal_in(file: NoteFile, bytes: &[u8]) -> Option<SignalInfo>
     })
 }
 
-fn say_signal<W: Write, V: Write>(
+fn tell_signal<T: Tell>(
     part: Part,
     number: u64,
     info: Option<SignalInfo>,
-    report: &mut Report<'_, W, V>,
+    tell: &mut T,
 ) -> Result<(), Stop>
-    ensures { OnOk result (report.new ≡ saying report.old (said_if (signal_said part number) info)) }
+    ensures { OnOk result (tell.new ≡ saying T.one tell.old (said_if (signal_said part number) info)) }
 {
     match info {
-        Some(info) => report.state(Kind::SignalInfo, &signal_members(part, number, info)),
+        Some(info) => tell.state(Kind::SignalInfo, &signal_members(part, number, info)),
         None => Ok(()),
     }
 }
@@ -359,25 +360,25 @@ fn entry_members(part: Part, number: u64, entry: AuxiliaryEntry) -> [Member<'sta
     ]
 }
 
-fn say_entry<W: Write, V: Write>(
+fn tell_entry<T: Tell>(
     part: Part,
     number: u64,
     entry: AuxiliaryEntry,
-    report: &mut Report<'_, W, V>,
+    tell: &mut T,
 ) -> Result<(), Stop>
-    ensures { OnOk result (report.new ≡ saying report.old (entry_said part number entry)) }
+    ensures { OnOk result (tell.new ≡ saying T.one tell.old (entry_said part number entry)) }
 {
-    report.state(Kind::AuxiliaryEntry, &entry_members(part, number, entry))
+    tell.state(Kind::AuxiliaryEntry, &entry_members(part, number, entry))
 }
 
-fn say_entries<W: Write, V: Write>(
+fn tell_entries<T: Tell>(
     file: NoteFile,
     part: Part,
     number: u64,
     bytes: &[u8],
-    report: &mut Report<'_, W, V>,
+    tell: &mut T,
 ) -> Result<(), Stop>
-    ensures { OnOk result (report.new ≡ saying report.old (entries_said file part number bytes.now bytes.now)) }
+    ensures { OnOk result (tell.new ≡ saying T.one tell.old (entries_said file part number bytes.now bytes.now)) }
 {
     let mut rest = bytes;
     let mut left = bytes;
@@ -385,24 +386,24 @@ fn say_entries<W: Write, V: Write>(
         let Some(entry) = entry_in(file, rest) else {
             return Ok(());
         };
-        say_entry(part, number, entry, report)?;
+        tell_entry(part, number, entry, tell)?;
         rest = rest_of(2 * address_size(file.class), rest);
         left = others;
     }
     Ok(())
 }
 
-fn say_auxiliary<W: Write, V: Write>(
+fn tell_auxiliary<T: Tell>(
     file: NoteFile,
     part: Part,
     number: u64,
     bytes: &[u8],
-    report: &mut Report<'_, W, V>,
+    tell: &mut T,
 ) -> Result<(), Stop>
-    ensures { OnOk result (report.new ≡ saying report.old (auxiliary_said file part number bytes.now)) }
+    ensures { OnOk result (tell.new ≡ saying T.one tell.old (auxiliary_said file part number bytes.now)) }
 {
     if is_auxiliary(file.class, bytes) {
-        say_entries(file, part, number, bytes, report)
+        tell_entries(file, part, number, bytes, tell)
     } else {
         Ok(())
     }
@@ -508,31 +509,31 @@ fn mapped_members<'a>(
     ]
 }
 
-fn say_mapped<W: Write, V: Write>(
+fn tell_mapped<T: Tell>(
     part: Part,
     number: u64,
     mapped: MappedFile,
     path: &[u8],
-    report: &mut Report<'_, W, V>,
+    tell: &mut T,
 ) -> Result<(), Stop>
-    ensures { OnOk result (report.new ≡ saying report.old (mapped_said part number mapped path.now)) }
+    ensures { OnOk result (tell.new ≡ saying T.one tell.old (mapped_said part number mapped path.now)) }
 {
-    report.state(
+    tell.state(
         Kind::MappedFile,
         &mapped_members(part, number, mapped, path),
     )
 }
 
 // Says each mapping, by its numbers and its name.
-fn say_mappings<W: Write, V: Write>(
+fn tell_mappings<T: Tell>(
     file: NoteFile,
     part: Part,
     number: u64,
     table: &[u8],
     texts: &[u8],
-    report: &mut Report<'_, W, V>,
+    tell: &mut T,
 ) -> Result<(), Stop>
-    ensures { OnOk result (report.new ≡ saying report.old
+    ensures { OnOk result (tell.new ≡ saying T.one tell.old
         (mappings_said file part number table.now table.now texts.now)) }
 {
     let mut rest = table;
@@ -543,7 +544,7 @@ fn say_mappings<W: Write, V: Write>(
             return Ok(());
         };
         let path = text_in(names);
-        say_mapped(part, number, mapped, path, report)?;
+        tell_mapped(part, number, mapped, path, tell)?;
         rest = rest_of(3 * address_size(file.class), rest);
         names = after_string(path, names);
         left = others;
@@ -551,15 +552,15 @@ fn say_mappings<W: Write, V: Write>(
     Ok(())
 }
 
-fn say_files<W: Write, V: Write>(
+fn tell_files<T: Tell>(
     file: NoteFile,
     part: Part,
     number: u64,
     bytes: &[u8],
     files: Option<MappedFiles>,
-    report: &mut Report<'_, W, V>,
+    tell: &mut T,
 ) -> Result<(), Stop>
-    ensures { OnOk result (report.new ≡ saying report.old
+    ensures { OnOk result (tell.new ≡ saying T.one tell.old
         (said_if (files_said file part number bytes.now) files)) }
 {
     let Some(files) = files else {
@@ -568,6 +569,6 @@ fn say_files<W: Write, V: Write>(
     let mappings = mappings_in(file, bytes);
     let table = first_of(files.names_at, mappings);
     let texts = rest_of(files.names_at, mappings);
-    report.state(Kind::MappedFiles, &files_members(part, number, files))?;
-    say_mappings(file, part, number, table, texts, report)
+    tell.state(Kind::MappedFiles, &files_members(part, number, files))?;
+    tell_mappings(file, part, number, table, texts, tell)
 }

@@ -1,4 +1,6 @@
 //! What is said of the descriptors of notes.
+#![tactic(auto, using(nugwier_report::proofs::Saying::saying_both))]
+
 ghost use Rattle.std.specs.Prelude.{◌≡◌, OnOk};
 ghost use Rattle.std.specs.Option.{option_copied, option_map};
 ghost use Rattle.nugwier_notes.specs.Descriptors.{addresses_in, descriptor_said, first_string};
@@ -7,37 +9,36 @@ ghost use Rattle.nugwier_notes.specs.Descriptors.{text_members, texts_in, texts_
 ghost use Rattle.nugwier_writing.specs.Members.{members_said};
 ghost use Rattle.nugwier_report.specs.Said.{said_if, saying};
 
-use crate::core_notes::{is_core_note, say_core_note};
+use crate::core_notes::{is_core_note, tell_core_note};
 use crate::note_parts::{address_in, address_size, after_string, text_in};
-use crate::properties::{NoteFile, is_property_note, say_properties};
+use crate::properties::{NoteFile, is_property_note, tell_properties};
 use elf_parts::note::NoteAny;
 use elf_parts::string_table::StringTable;
 use nugwier_report::problem::{Part, Stop, part_member};
-use nugwier_report::report::Report;
+use nugwier_report::tell::Tell;
 use nugwier_writing::json::{Member, Value};
 use nugwier_writing::kind::Kind;
 use nugwier_writing::slices::rest_of;
-use std::io::Write;
 
 /// Says what the descriptor of a note holds, by the number of the note.
-pub(crate) fn say_descriptor<W: Write, V: Write>(
+pub(crate) fn tell_descriptor<T: Tell>(
     file: NoteFile,
     part: Part,
     number: u64,
     note: &NoteAny<'_>,
-    report: &mut Report<'_, W, V>,
+    tell: &mut T,
 ) -> Result<(), Stop>
-    ensures { OnOk result (report.new ≡ saying report.old
+    ensures { OnOk result (tell.new ≡ saying T.one tell.old
         (descriptor_said file part number note.now.n_type note.now.name.now note.now.desc.now)) }
 {
     if is_property_note(note.n_type, note.name) {
-        say_properties(file, part, number, note.desc, report)
+        tell_properties(file, part, number, note.desc, tell)
     } else if is_text_note(note.n_type, note.name) {
-        report.state(Kind::NoteText, &text_members(part, number, note.desc))
+        tell.state(Kind::NoteText, &text_members(part, number, note.desc))
     } else if is_probe_note(note.n_type, note.name) {
-        say_probe(part, number, probe_in(file, note.desc), report)
+        tell_probe(part, number, probe_in(file, note.desc), tell)
     } else if is_core_note(note.name) {
-        say_core_note(file, part, number, note.n_type, note.desc, report)
+        tell_core_note(file, part, number, note.n_type, note.desc, tell)
     } else {
         Ok(())
     }
@@ -132,18 +133,18 @@ fn probe_in(file: NoteFile, bytes: &[u8]) -> Option<(ProbeAddresses, ProbeNames<
     Some((addresses, names))
 }
 
-fn say_probe<W: Write, V: Write>(
+fn tell_probe<T: Tell>(
     part: Part,
     number: u64,
     probe: Option<(ProbeAddresses, ProbeNames<'_>)>,
-    report: &mut Report<'_, W, V>,
+    tell: &mut T,
 ) -> Result<(), Stop>
-    ensures { OnOk result (report.new ≡ saying report.old (said_if (probe_said part number)
+    ensures { OnOk result (tell.new ≡ saying T.one tell.old (said_if (probe_said part number)
         (option_map (λ probe. (probe.0, texts_view probe.1)) probe.entry))) }
 {
     match probe {
         Some((addresses, names)) => {
-            report.state(Kind::Probe, &probe_members(part, number, addresses, names))
+            tell.state(Kind::Probe, &probe_members(part, number, addresses, names))
         }
         None => Ok(()),
     }

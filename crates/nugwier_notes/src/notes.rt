@@ -1,4 +1,6 @@
 //! What is said of notes.
+#![tactic(auto, using(nugwier_report::proofs::Saying::saying_both))]
+
 ghost use Rattle.std.specs.Prelude.{◌≡◌, OnOk};
 ghost use Rattle.elf_parts.specs.Note.{Other, note_view, notes_left};
 ghost use Rattle.nugwier_writing.specs.Members.{members_said};
@@ -6,7 +8,7 @@ ghost use Rattle.nugwier_notes.specs.Notes.{abi_tag_members, abi_tag_said, build
 ghost use Rattle.nugwier_notes.specs.Notes.{other_members, without_nul};
 ghost use Rattle.nugwier_report.specs.Said.{saying};
 
-use crate::descriptors::say_descriptor;
+use crate::descriptors::tell_descriptor;
 use crate::properties::NoteFile;
 use elf_abi::{abi, to_str};
 use elf_names::notes::note_type_name;
@@ -14,21 +16,20 @@ use elf_parts::endian::EndianParse;
 use elf_parts::laws::notes::few_notes_are_left;
 use elf_parts::note::{Note, NoteAny, NoteGnuAbiTag, NoteIterator};
 use nugwier_report::problem::{Part, Stop, part_member};
-use nugwier_report::report::Report;
-use nugwier_report::rows::{Row, say_items};
+use nugwier_report::rows::{Row, tell_items};
+use nugwier_report::tell::Tell;
 use nugwier_writing::json::{Member, Value};
 use nugwier_writing::kind::Kind;
-use std::io::Write;
 use std::marker::PhantomData;
 
 /// Says the notes of a section or of a segment.
-pub fn say_notes<E: EndianParse, W: Write, V: Write>(
+pub fn tell_notes<E: EndianParse, T: Tell>(
     file: NoteFile,
     part: Part,
     notes: NoteIterator<'_, E>,
-    report: &mut Report<'_, W, V>,
+    tell: &mut T,
 ) -> Result<(), Stop>
-    ensures { OnOk result (report.new ≡ saying report.old (notes_said file part (notes_left notes.entry))) }
+    ensures { OnOk result (tell.new ≡ saying T.one tell.old (notes_said file part (notes_left notes.entry))) }
 {
     few_notes_are_left(&notes);
     let row = NoteRow {
@@ -36,7 +37,7 @@ pub fn say_notes<E: EndianParse, W: Write, V: Write>(
         part,
         data: PhantomData,
     };
-    say_items(notes, &row, report)
+    tell_items(notes, &row, tell)
 }
 
 // A note of a section or of a segment.
@@ -52,46 +53,41 @@ impl<'data> Row for NoteRow<'data> {
 
     ghost said = { λ row number note. note_said row.file row.part number (note_view note) };
 
-    fn say<W: Write, V: Write>(
-        &self,
-        number: u64,
-        note: &Note<'data>,
-        report: &mut Report<'_, W, V>,
-    ) -> Result<(), Stop> {
+    fn tell<T: Tell>(&self, number: u64, note: &Note<'data>, tell: &mut T) -> Result<(), Stop> {
         let part = self.part;
         match note {
-            Note::GnuAbiTag(tag) => say_abi_tag(part, number, tag, report),
+            Note::GnuAbiTag(tag) => tell_abi_tag(part, number, tag, tell),
             Note::GnuBuildId(id) => {
-                report.state(Kind::BuildIdNote, &build_id_members(part, number, id.0))
+                tell.state(Kind::BuildIdNote, &build_id_members(part, number, id.0))
             }
-            Note::Unknown(note) => say_other(self.file, part, number, note, report),
+            Note::Unknown(note) => tell_other(self.file, part, number, note, tell),
         }
     }
 }
 
-fn say_abi_tag<W: Write, V: Write>(
+fn tell_abi_tag<T: Tell>(
     part: Part,
     number: u64,
     tag: &NoteGnuAbiTag,
-    report: &mut Report<'_, W, V>,
+    tell: &mut T,
 ) -> Result<(), Stop>
-    ensures { OnOk result (report.new ≡ saying report.old (abi_tag_said part number tag.now)) }
+    ensures { OnOk result (tell.new ≡ saying T.one tell.old (abi_tag_said part number tag.now)) }
 {
-    report.state(Kind::AbiTagNote, &abi_tag_members(part, number, tag))
+    tell.state(Kind::AbiTagNote, &abi_tag_members(part, number, tag))
 }
 
-fn say_other<W: Write, V: Write>(
+fn tell_other<T: Tell>(
     file: NoteFile,
     part: Part,
     number: u64,
     note: &NoteAny<'_>,
-    report: &mut Report<'_, W, V>,
+    tell: &mut T,
 ) -> Result<(), Stop>
-    ensures { OnOk result (report.new ≡ saying report.old
+    ensures { OnOk result (tell.new ≡ saying T.one tell.old
         (note_said file part number (Other note.now.n_type note.now.name.now note.now.desc.now))) }
 {
-    report.state(Kind::Note, &other_members(part, number, note))?;
-    say_descriptor(file, part, number, note, report)
+    tell.state(Kind::Note, &other_members(part, number, note))?;
+    tell_descriptor(file, part, number, note, tell)
 }
 
 fn abi_tag_members(part: Part, number: u64, tag: &NoteGnuAbiTag) -> [Member<'static>; 10]

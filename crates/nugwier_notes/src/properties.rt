@@ -1,4 +1,6 @@
 //! The properties of the code of a file, which are an array in the descriptor of a note.
+#![tactic(auto, using(nugwier_report::proofs::Saying::saying_both))]
+
 ghost use Rattle.std.specs.Prelude.{◌≡◌, OnOk};
 ghost use Rattle.elf_names.specs.Flags.{flags_of};
 ghost use Rattle.elf_names.specs.Table.{rows_of};
@@ -16,11 +18,10 @@ use elf_parts::endian::{AnyEndian, EndianParse};
 use elf_parts::file::Class;
 use nugwier_report::hardening::{feature_flags, is_aarch64, is_x86, number_value};
 use nugwier_report::problem::{Part, Stop, part_member};
-use nugwier_report::report::Report;
+use nugwier_report::tell::Tell;
 use nugwier_writing::json::{Member, Value};
 use nugwier_writing::kind::Kind;
 use nugwier_writing::slices::rest_of;
-use std::io::Write;
 
 /// A file, as the descriptors of notes and build attributes depend on it: its byte order, its class, and its machine
 /// (`e_machine`).
@@ -205,14 +206,14 @@ fn property_types(machine: u16, kind: u32) -> Names<u32>
 // ---- what is said
 
 /// Says the properties of a note, by its number.
-pub(crate) fn say_properties<W: Write, V: Write>(
+pub(crate) fn tell_properties<T: Tell>(
     file: NoteFile,
     part: Part,
     note: u64,
     bytes: &[u8],
-    report: &mut Report<'_, W, V>,
+    tell: &mut T,
 ) -> Result<(), Stop>
-    ensures { OnOk result (report.new ≡ saying report.old (properties_said file part note bytes.now bytes.now)) }
+    ensures { OnOk result (tell.new ≡ saying T.one tell.old (properties_said file part note bytes.now bytes.now)) }
 {
     let mut rest = bytes;
     let mut left = bytes;
@@ -221,27 +222,27 @@ pub(crate) fn say_properties<W: Write, V: Write>(
             return Ok(());
         };
         let number = property_number(file.order(), property.1, rest);
-        say_property(file, part, note, property, number, report)?;
+        tell_property(file, part, note, property, number, tell)?;
         rest = rest_of(8 + padded(file.class, property.1), rest);
         left = others;
     }
     Ok(())
 }
 
-fn say_property<W: Write, V: Write>(
+fn tell_property<T: Tell>(
     file: NoteFile,
     part: Part,
     note: u64,
     property: (u32, u32),
     number: Option<u64>,
-    report: &mut Report<'_, W, V>,
+    tell: &mut T,
 ) -> Result<(), Stop>
-    ensures { OnOk result (report.new ≡ saying report.old (property_said file part note property number)) }
+    ensures { OnOk result (tell.new ≡ saying T.one tell.old (property_said file part note property number)) }
 {
     let members = property_members(file, part, note, property, number);
     match number {
-        Some(_) => report.state(Kind::NumberProperty, &members),
-        None => report.state(Kind::Property, &members),
+        Some(_) => tell.state(Kind::NumberProperty, &members),
+        None => tell.state(Kind::Property, &members),
     }
 }
 

@@ -1,5 +1,5 @@
 -- What is said of the objects of a program, one object more at a time.
-use Rattle.std.proofs.Common.{◌≡◌, ◌≢◌, ℕ, zero, suc, ◌+◌, ◌<◌, ◌≤◌, ◌==◌, Bool, true, false, List, [], ◌∷◌, ◌++◌, drop, get_or, length, map, reverse, replicate, Option, Some, None, refl, ap, sym, ◌∙◌, arith, append_assoc, append-nil}
+use Rattle.std.proofs.Common.{◌≡◌, ◌≢◌, ℕ, zero, suc, ◌+◌, ◌<◌, ◌≤◌, ◌==◌, Bool, true, false, List, [], ◌∷◌, ◌++◌, drop, get_or, length, map, reverse, replicate, Option, Some, None, refl, ap, sym, ◌∙◌, arith, append-nil}
 use Rattle.std.proofs.lemmas.Bool.Decides.{nat_tests}
 use Rattle.std.proofs.lemmas.Grind.{flat_map-append}
 use Rattle.std.proofs.lemmas.List.{drop_all, drop_more, get_or-replicate, get_or-set_other, get_or-set_same, length-replicate, length-set, map-append, reverse-append}
@@ -17,7 +17,8 @@ use Rattle.elf_parts.specs.gnu_symver.Table.{Versions}
 use Rattle.elf_records.specs.declared.symbol.Symbol.{Symbol}
 use Rattle.elf_linking.specs.declared.bindings.kinds.SymbolBinding.{SymbolBinding}
 use Rattle.nugwier_records.specs.Bindings.{BoundSymbol}
-use Rattle.nugwier_report.specs.Said.{Said, Telling, saying}
+use Rattle.nugwier_report.specs.Said.{Said, saying}
+use Rattle.nugwier_report.proofs.Saying.{saying_both, then_said}
 use Rattle.nugwier_programs.specs.Tree.{Listed, after_it, cached_in, first_by, walk}
 use Rattle.elf_linking.specs.SymbolUses.{uses_at}
 use Rattle.elf_linking.specs.declared.bindings.uses.SymbolUses.{SymbolUses}
@@ -28,17 +29,12 @@ use denote.Ref.{Bor}
 
 -- ---- what was said, and what is left to say
 
-pub saying_nothing : (r : Telling) → saying r [] ≡ r
-saying_nothing r = ap (λ (t : List Said). record r { said = t }) (append-nil r.said)
-
-pub saying_both : (r : Telling) (a b : List Said) → saying (saying r a) b ≡ saying r (a ++ b)
-saying_both r a b = ap (λ (t : List Said). record r { said = t }) (append_assoc r.said a b)
-
--- of the first of a list, and then of the others
-pub say_first : {X : Type 0} (f : X → List Said) (r now : Telling) (x : X) (xs all : List X) → all ≡ x ∷ xs → now ≡ saying r (f x) → saying now (flat_map f xs) ≡ saying r (flat_map f all)
-say_first f r now x xs all is said =
-    ap (λ (t : Telling). saying t (flat_map f xs)) said ∙ saying_both r (f x) (flat_map f xs)
-    ∙ ap (λ (l : List _). saying r (flat_map f l)) (sym is)
+module _ {T : Type 0} (one : T → Said → T) where
+  -- of the first of a list, and then of the others
+  first_said : {X : Type 0} (f : X → List Said) (r now : T) (x : X) (xs all : List X) → all ≡ x ∷ xs → now ≡ saying one r (f x) → saying one now (flat_map f xs) ≡ saying one r (flat_map f all)
+  first_said f r now x xs all is said =
+      ap (λ (t : T). saying one t (flat_map f xs)) said ∙ saying_both one r (f x) (flat_map f xs)
+      ∙ ap (λ (l : List _). saying one r (flat_map f l)) (sym is)
 
 -- ---- the stack
 
@@ -46,25 +42,25 @@ pub popped : (old new : List Given) (x : Given) → old ≡ new ++ x ∷ [] → 
 popped old new x is =
     ap stack_view is ∙ ap reverse (map-append listed_view new (x ∷ [])) ∙ reverse-append (map listed_view new) (listed_view x ∷ [])
 
--- one object of the walk
-pub walked : (f : Listed → List Said) (objects : List Entry) (n m : ℕ) (x : Listed) (rest waiting after : List Listed) (r now whole : Telling) →
-    n ≡ suc m → waiting ≡ x ∷ rest → after ≡ after_it objects x ++ rest → now ≡ saying r (f x) →
-    saying r (flat_map f (walk n objects waiting)) ≡ whole → saying now (flat_map f (walk m objects after)) ≡ whole
-walked f objects n m x rest waiting after r now whole count is next said before =
-    let first : walk n objects waiting ≡ x ∷ walk m objects after =
-    ap (λ (k : ℕ). walk k objects waiting) count ∙ ap (λ (l : List Listed). walk (suc m) objects l) is
-    ∙ ap (λ (l : List Listed). x ∷ walk m objects l) (sym next) in
-    say_first f r now x (walk m objects after) (walk n objects waiting) first said ∙ before
-
 walk_nothing : (n : ℕ) (objects : List Entry) → walk n objects [] ≡ []
 walk_nothing zero objects = refl
 walk_nothing (suc n) objects = refl
 
-pub none_waits : (f : Listed → List Said) (objects : List Entry) (n : ℕ) (waiting : List Listed) (r whole : Telling) → waiting ≡ [] →
-    saying r (flat_map f (walk n objects waiting)) ≡ whole → r ≡ whole
-none_waits f objects n waiting r whole none before =
-    sym (saying_nothing r) ∙ ap (λ (l : List Listed). saying r (flat_map f l)) (sym (walk_nothing n objects))
-    ∙ ap (λ (l : List Listed). saying r (flat_map f (walk n objects l))) (sym none) ∙ before
+module _ {T : Type 0} (one : T → Said → T) (f : Listed → List Said) (objects : List Entry) where
+  -- one object of the walk
+  pub walked : (n m : ℕ) (x : Listed) (rest waiting after : List Listed) (r now whole : T) →
+      n ≡ suc m → waiting ≡ x ∷ rest → after ≡ after_it objects x ++ rest → now ≡ saying one r (f x) →
+      saying one r (flat_map f (walk n objects waiting)) ≡ whole → saying one now (flat_map f (walk m objects after)) ≡ whole
+  walked n m x rest waiting after r now whole count is next said before =
+      let first : walk n objects waiting ≡ x ∷ walk m objects after =
+      ap (λ (k : ℕ). walk k objects waiting) count ∙ ap (λ (l : List Listed). walk (suc m) objects l) is
+      ∙ ap (λ (l : List Listed). x ∷ walk m objects l) (sym next) in
+      first_said one f r now x (walk m objects after) (walk n objects waiting) first said ∙ before
+
+  pub none_waits : (n : ℕ) (waiting : List Listed) (r whole : T) → waiting ≡ [] → saying one r (flat_map f (walk n objects waiting)) ≡ whole → r ≡ whole
+  none_waits n waiting r whole none before =
+      ap (λ (l : List Listed). saying one r (flat_map f l)) (sym (walk_nothing n objects))
+      ∙ ap (λ (l : List Listed). saying one r (flat_map f (walk n objects l))) (sym none) ∙ before
 
 -- ---- the first object that each one needed first
 
@@ -173,14 +169,11 @@ nothing_left (x ∷ xs) none = absurd (omega (arith, none))
 pub stack_empty : (waiting : List Given) → length waiting ≡ 0 → stack_view waiting ≡ []
 stack_empty waiting none = ap stack_view (nothing_left waiting none)
 
--- ---- what was said after two or three steps
+-- ---- what was said after three steps
 
-pub said_two : (r a b : Telling) (p s : List Said) → a ≡ saying r p → b ≡ saying a s → b ≡ saying r (p ++ s)
-said_two r a b p s first second = second ∙ ap (λ (t : Telling). saying t s) first ∙ saying_both r p s
-
-pub said_three : (r a b c : Telling) (p s t : List Said) → a ≡ saying r p → b ≡ saying a s → c ≡ saying b t → c ≡ saying r (p ++ (s ++ t))
-said_three r a b c p s t first second third =
-    said_two r a c p (s ++ t) first (said_two a b c s t second third)
+pub said_three : {T : Type 0} (one : T → Said → T) (r a b c : T) (p s t : List Said) → a ≡ saying one r p → b ≡ saying one a s → c ≡ saying one b t → c ≡ saying one r (p ++ (s ++ t))
+said_three one r a b c p s t first second third =
+    then_said one r a c p (s ++ t) first (then_said one a b c s t second third)
 
 pub flat_more : {X A : Type 0} (f : X → List A) (xs : List X) (x : X) → flat_map f (xs ++ x ∷ []) ≡ flat_map f xs ++ f x
 flat_more f xs x = flat_map-append f xs (x ∷ []) ∙ ap (λ (t : List _). flat_map f xs ++ t) (append-nil (f x))
@@ -188,12 +181,12 @@ flat_more f xs x = flat_map-append f xs (x ∷ []) ∙ ap (λ (t : List _). flat
 -- ---- symbols
 
 -- of one symbol more, with what it binds to
-pub one_more : (paths : List (List ℕ)) (objects : List VersionedObject) (path strings : List ℕ) (versions : Option Versions) (all : List SymbolUses) (bound : List ((ℕ × Symbol) × SymbolBinding)) (k : ℕ) (d : (ℕ × Symbol) × SymbolBinding)
-    (symbol : BoundSymbol) (uses : SymbolUses) (r now whole : Telling) → k < length bound → symbol ≡ symbol_of path strings versions (get_or bound k d).0 → uses ≡ uses_at all (get_or bound k d).0.0
-    → now ≡ saying r (symbol_said paths objects symbol uses (get_or bound k d).1) →
-    saying r (flat_map (one_said paths objects path strings versions all) (drop k bound)) ≡ whole → saying now (flat_map (one_said paths objects path strings versions all) (drop (k + 1) bound)) ≡ whole
-one_more paths objects path strings versions all bound k d symbol uses r now whole less is used said before =
-    let one = get_or bound k d in
-    say_first (one_said paths objects path strings versions all) r now one (drop (k + 1) bound) (drop k bound) (drop_more bound k d less)
-    (said ∙ ap (λ (u : SymbolUses). saying r (symbol_said paths objects symbol u one.1)) used
-    ∙ ap (λ (s : BoundSymbol). saying r (symbol_said paths objects s (uses_at all one.0.0) one.1)) is) ∙ before
+pub one_more : {T : Type 0} (one : T → Said → T) (paths : List (List ℕ)) (objects : List VersionedObject) (path strings : List ℕ) (versions : Option Versions) (all : List SymbolUses) (bound : List ((ℕ × Symbol) × SymbolBinding)) (k : ℕ) (d : (ℕ × Symbol) × SymbolBinding)
+    (symbol : BoundSymbol) (uses : SymbolUses) (r now whole : T) → k < length bound → symbol ≡ symbol_of path strings versions (get_or bound k d).0 → uses ≡ uses_at all (get_or bound k d).0.0
+    → now ≡ saying one r (symbol_said paths objects symbol uses (get_or bound k d).1) →
+    saying one r (flat_map (one_said paths objects path strings versions all) (drop k bound)) ≡ whole → saying one now (flat_map (one_said paths objects path strings versions all) (drop (k + 1) bound)) ≡ whole
+one_more one paths objects path strings versions all bound k d symbol uses r now whole less is used said before =
+    let next = get_or bound k d in
+    first_said one (one_said paths objects path strings versions all) r now next (drop (k + 1) bound) (drop k bound) (drop_more bound k d less)
+    (said ∙ ap (λ (u : SymbolUses). saying one r (symbol_said paths objects symbol u next.1)) used
+    ∙ ap (λ (s : BoundSymbol). saying one r (symbol_said paths objects s (uses_at all next.0.0) next.1)) is) ∙ before

@@ -1,4 +1,6 @@
 //! What the symbols of a program and of its libraries bind to.
+#![tactic(auto, using(nugwier_report::proofs::Saying::saying_both, nugwier_records::proofs::Parts::said_parts))]
+
 ghost use Rattle.std.specs.Prelude.{◌≡◌, ◌∷◌, ◌++◌, List, OnOk, Some, map};
 ghost use Rattle.std.specs.List.{flat_map};
 ghost use Rattle.elf_libraries.specs.Tree.{entry_of, entry_view, file_of, found_view};
@@ -17,53 +19,52 @@ mod targets;
 use crate::bindings::objects::{
     OpenFile, WithTable, add_file, add_files, index_objects, open_file, open_files, split,
 };
-use crate::bindings::rows::say_file;
+use crate::bindings::rows::tell_file;
 use crate::bindings::targets::Scope;
-use crate::tree::{Search, named_objects, open_program, say_problems};
+use crate::tree::{Search, named_objects, open_program, tell_problems};
 use elf_libraries::tree::{LoadedFile, Object, in_order};
 use nugwier_files::files::Files;
 use nugwier_report::problem::Stop;
-use nugwier_report::report::Report;
+use nugwier_report::tell::Tell;
 use std::alloc::Global;
-use std::io::Write;
 
 /// Says what the symbols of a program and of its libraries bind to, which libraries are missing or have names that are
 /// not known, and what is missing or not known of the symbols. The path and the data are those of the program. The errors
 /// are that of the writer, and a failed allocation.
-pub fn say_bindings<F: Files, W: Write, V: Write>(
+pub fn tell_bindings<F: Files, T: Tell>(
     alloc: Global,
     search: Search<'_>,
     files: &F,
     path: &str,
     data: Vec<u8>,
-    report: &mut Report<'_, W, V>,
+    tell: &mut T,
 ) -> Result<(), Stop>
     ensures { OnOk result ((said : List Said)
         × IsBindingsSaid (F.known files.now) (search_view search.entry) (file_of path.now «data».items) said
-        × (report.new ≡ saying report.old said)) }
+        × (tell.new ≡ saying T.one tell.old said)) }
 {
-    let Some(program) = open_program(alloc, path, data, report)? else {
+    let Some(program) = open_program(alloc, path, data, tell)? else {
         return Ok(());
     };
-    say_bound(alloc, search, files, program, report)
+    tell_bound(alloc, search, files, program, tell)
 }
 
 /// Says the same of a program that was opened. What look-ups use of one without its bytes is read from its path.
-pub fn say_bound<F: Files, W: Write, V: Write>(
+pub fn tell_bound<F: Files, T: Tell>(
     alloc: Global,
     search: Search<'_>,
     files: &F,
     program: LoadedFile,
-    report: &mut Report<'_, W, V>,
+    tell: &mut T,
 ) -> Result<(), Stop>
     ensures { OnOk result ((said : List Said)
         × IsBoundSaid (F.known files.now) (search_view search.entry) (found_view program) said
-        × (report.new ≡ saying report.old said)) }
+        × (tell.new ≡ saying T.one tell.old said)) }
 {
     let order = named_objects(alloc, search, files, program)?;
-    say_problems(&order.objects, report)?;
+    tell_problems(&order.objects, tell)?;
     let objects = in_order(alloc, &order)?;
-    say_objects(alloc, files, &objects, report)?;
+    tell_objects(alloc, files, &objects, tell)?;
     Ok(())
 }
 
@@ -72,91 +73,86 @@ pub fn say_bound<F: Files, W: Write, V: Write>(
 //
 // A library that cannot be searched counts as one that defines nothing. If the program is such an object, nothing else
 // is said.
-#[tactic(auto, using(crate::proofs::Walk::saying_nothing))]
-fn say_objects<F: Files, W: Write, V: Write>(
+fn tell_objects<F: Files, T: Tell>(
     alloc: Global,
     files: &F,
     objects: &[&Object],
-    report: &mut Report<'_, W, V>,
+    tell: &mut T,
 ) -> Result<(), Stop>
     ensures { OnOk result ((said : List Said)
         × AreObjectsSaid (F.known files.now) (map entry_of objects.now) said
-        × (report.new ≡ saying report.old said)) }
+        × (tell.new ≡ saying T.one tell.old said)) }
 {
     let [program, libraries @ ..] = objects else {
         return Ok(());
     };
-    say_program(alloc, files, program, libraries, report)?;
+    tell_program(alloc, files, program, libraries, tell)?;
     Ok(())
 }
 
 // Says it of a program and of its libraries.
-fn say_program<F: Files, W: Write, V: Write>(
+fn tell_program<F: Files, T: Tell>(
     alloc: Global,
     files: &F,
     program: &Object,
     libraries: &[&Object],
-    report: &mut Report<'_, W, V>,
+    tell: &mut T,
 ) -> Result<(), Stop>
     ensures { OnOk result ((said : List Said)
         × AreObjectsSaid (F.known files.now) (entry_view program.now ∷ map entry_of libraries.now) said
-        × (report.new ≡ saying report.old said)) }
+        × (tell.new ≡ saying T.one tell.old said)) }
 {
-    let Some(program) = open_file(alloc, files, program, report)? else {
+    let Some(program) = open_file(alloc, files, program, tell)? else {
         return Ok(());
     };
-    say_opened(alloc, files, &program, libraries, report)?;
+    tell_opened(alloc, files, &program, libraries, tell)?;
     Ok(())
 }
 
 // Says it of a program that was opened.
-fn say_opened<F: Files, W: Write, V: Write>(
+fn tell_opened<F: Files, T: Tell>(
     alloc: Global,
     files: &F,
     program: &OpenFile<'_>,
     libraries: &[&Object],
-    report: &mut Report<'_, W, V>,
+    tell: &mut T,
 ) -> Result<(), Stop>
     ensures { OnOk result ((said : List Said)
         × IsProgramSaid (F.known files.now) (Some (open_view program.now)) (map entry_of libraries.now) said
-        × (report.new ≡ saying report.old said)) }
+        × (tell.new ≡ saying T.one tell.old said)) }
 {
     let mut found = Vec::new(alloc);
-    add_file(program, &mut found, report)?;
+    add_file(program, &mut found, tell)?;
     if found.is_empty() {
         return Ok(());
     }
-    let opened = open_files(alloc, files, libraries, report)?;
-    say_with(alloc, found, opened.as_slice(), report)?;
+    let opened = open_files(alloc, files, libraries, tell)?;
+    tell_with(alloc, found, opened.as_slice(), tell)?;
     Ok(())
 }
 
 // Says it of the files that were found, and of those of these that can be searched.
-fn say_with<'a, W: Write, V: Write>(
+fn tell_with<'a, T: Tell>(
     alloc: Global,
     found: Vec<WithTable<'a>>,
     libraries: &'a [OpenFile<'a>],
-    report: &mut Report<'_, W, V>,
+    tell: &mut T,
 ) -> Result<(), Stop>
     ensures { OnOk result ((others : List Searching) × AreSearched (map open_view libraries.now) others
         × (files : List Said)
         × AreAllFilesSaid (map searched_file found.entry.items ++ flat_map files_of others) files
-        × (report.new ≡ saying report.old (flat_map search_problem others ++ files))) }
+        × (tell.new ≡ saying T.one tell.old (flat_map search_problem others ++ files))) }
 {
     let mut found = found;
-    add_files(libraries, &mut found, report)?;
-    say_found(alloc, found, report)?;
+    add_files(libraries, &mut found, tell)?;
+    tell_found(alloc, found, tell)?;
     Ok(())
 }
 
 // Says it of the files that were found.
-fn say_found<W: Write, V: Write>(
-    alloc: Global,
-    found: Vec<WithTable<'_>>,
-    report: &mut Report<'_, W, V>,
-) -> Result<(), Stop>
+fn tell_found<T: Tell>(alloc: Global, found: Vec<WithTable<'_>>, tell: &mut T) -> Result<(), Stop>
     ensures { OnOk result ((said : List Said) × AreAllFilesSaid (map searched_file found.entry.items) said
-        × (report.new ≡ saying report.old said)) }
+        × (tell.new ≡ saying T.one tell.old said)) }
 {
     let (files, tables) = split(alloc, found)?;
     let objects = index_objects(alloc, files.as_slice(), tables)?;
@@ -164,22 +160,22 @@ fn say_found<W: Write, V: Write>(
         files: files.as_slice(),
         objects: objects.as_slice(),
     };
-    say_files(alloc, scope, report)?;
+    tell_files(alloc, scope, tell)?;
     Ok(())
 }
 
 // Says it of the files of a scope.
-fn say_files<W: Write, V: Write>(
+fn tell_files<T: Tell>(
     alloc: Global,
     scope: Scope<'_, '_, '_, '_>,
-    report: &mut Report<'_, W, V>,
+    tell: &mut T,
 ) -> Result<(), Stop>
     ensures { OnOk result ((said : List Said) × ((all : List SearchedFile)
         → AreInScope all scope.entry.files.now scope.entry.objects.now → AreAllFilesSaid all said)
-        × (report.new ≡ saying report.old said)) }
+        × (tell.new ≡ saying T.one tell.old said)) }
 {
     for (place, file) in scope.files.iter().enumerate() {
-        say_file(alloc, scope, place, file, report)?;
+        tell_file(alloc, scope, place, file, tell)?;
     }
     Ok(())
 }

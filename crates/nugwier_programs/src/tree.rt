@@ -1,4 +1,6 @@
 //! The libraries that a program loads.
+#![tactic(auto, using(nugwier_report::proofs::Saying::saying_both, nugwier_records::proofs::Parts::said_parts))]
+
 ghost use Rattle.std.specs.Prelude.{◌≡◌, ◌++◌, List, Some, IfOk, IfSome, OnOk, map, slice_get};
 ghost use Rattle.std.specs.List.{flat_map};
 ghost use Rattle.std.specs.Option.{option_copied, option_map};
@@ -6,10 +8,10 @@ ghost use Rattle.std.specs.Vec.{vec_items};
 ghost use Rattle.elf_libraries.specs.Cache.{cache_view};
 ghost use Rattle.elf_libraries.specs.Tree.{Entry, entry_view, file_of, found_view, loader_at};
 ghost use Rattle.nugwier_programs.specs.Tree.{AreNamedObjects, IsNamedSaid, IsProgram, IsTreeSaid};
-ghost use Rattle.nugwier_programs.specs.Tree.{after_it, at_depth, cache_file, cache_in, entry_said, search_view};
+ghost use Rattle.nugwier_programs.specs.Tree.{after_it, at_depth, cache_file, cache_in, search_view};
 ghost use Rattle.nugwier_programs.specs.Tree.{first_needed};
-ghost use Rattle.nugwier_programs.specs.Tree.{is_needed_by, library_path, listed, listed_said, names_problem};
-ghost use Rattle.nugwier_programs.specs.Tree.{next_beside, order_view};
+ghost use Rattle.nugwier_programs.specs.Tree.{is_needed_by, library_path, listed, listed_said, next_beside};
+ghost use Rattle.nugwier_programs.specs.Tree.{order_view};
 ghost use Rattle.nugwier_programs.specs.Tree.{object_problem, object_problems, path_at, path_of, path_or_name};
 ghost use Rattle.nugwier_programs.specs.inner.Walk.{AreFirsts, listed_view, stack_view, with_first};
 ghost use Rattle.nugwier_report.specs.Said.{Said, saying, unread, whole};
@@ -29,9 +31,8 @@ use nugwier_files::named::NamedLibraries;
 use nugwier_records::objects::ListedObject;
 use nugwier_report::problem::{Fault, Item, Part, Place, Stop};
 use nugwier_report::quoted::{NamesFault, Quoted};
-use nugwier_report::report::Report;
+use nugwier_report::tell::Tell;
 use std::alloc::{AllocError, Global};
-use std::io::Write;
 
 /// Where libraries are searched for.
 #[derive(Debug, Clone, Copy)]
@@ -44,57 +45,57 @@ pub struct Search<'a> {
 
 /// Says which libraries a program loads, which of them are not found, and which have names that are not known. The path
 /// and the data are those of the program. The errors are that of the writer, and a failed allocation.
-pub fn say_tree<F: Files, W: Write, V: Write>(
+pub fn tell_tree<F: Files, T: Tell>(
     alloc: Global,
     search: Search<'_>,
     files: &F,
     path: &str,
     data: Vec<u8>,
-    report: &mut Report<'_, W, V>,
+    tell: &mut T,
 ) -> Result<(), Stop>
     ensures { OnOk result ((said : List Said)
         × IsTreeSaid (F.known files.now) (search_view search.entry) (file_of path.now «data».items) said
-        × (report.new ≡ saying report.old said)) }
+        × (tell.new ≡ saying T.one tell.old said)) }
 {
-    let Some(program) = open_program(alloc, path, data, report)? else {
+    let Some(program) = open_program(alloc, path, data, tell)? else {
         return Ok(());
     };
-    say_named(alloc, search, files, program.without_bytes(alloc), report)
+    tell_named(alloc, search, files, program.without_bytes(alloc), tell)
 }
 
 /// Says the same of a program that was opened by its names alone.
-pub fn say_named<F: Files, W: Write, V: Write>(
+pub fn tell_named<F: Files, T: Tell>(
     alloc: Global,
     search: Search<'_>,
     files: &F,
     program: LoadedFile,
-    report: &mut Report<'_, W, V>,
+    tell: &mut T,
 ) -> Result<(), Stop>
     ensures { OnOk result ((said : List Said)
         × IsNamedSaid (F.known files.now) (search_view search.entry) (found_view program) said
-        × (report.new ≡ saying report.old said)) }
+        × (tell.new ≡ saying T.one tell.old said)) }
 {
     let order = named_objects(alloc, search, files, program)?;
-    say_objects(alloc, &order.objects, report)?;
-    say_problems(&order.objects, report)
+    tell_objects(alloc, &order.objects, tell)?;
+    tell_problems(&order.objects, tell)
 }
 
 /// Opens a program. Returns `None` if that is not possible, and says why.
-pub(crate) fn open_program<W: Write, V: Write>(
+pub(crate) fn open_program<T: Tell>(
     alloc: Global,
     path: &str,
     data: Vec<u8>,
-    report: &mut Report<'_, W, V>,
+    tell: &mut T,
 ) -> Result<Option<LoadedFile>, Stop>
     ensures program { IfOk result (IsProgram (file_of path.now «data».items)) }
-    ensures said { OnOk result (report.new
-        ≡ saying report.old (unread (whole File) (file_of path.now «data».items))) }
+    ensures said { OnOk result (tell.new
+        ≡ saying T.one tell.old (unread (whole File) (file_of path.now «data».items))) }
 {
     match LoadedFile::open(alloc, Vec::from_slice(alloc, path.as_bytes())?, data) {
         Ok(program) => Ok(Some(program)),
         Err(OpenError::Memory) => Err(Stop::Memory),
         Err(OpenError::Open(error)) => {
-            report.problem(FILE, Fault::Read(error))?;
+            tell.problem(FILE, Fault::Read(error))?;
             Ok(None)
         }
     }
@@ -179,49 +180,29 @@ fn library_path(alloc: Global, searches: &[&str]) -> Result<Vec<u8>, AllocError>
 }
 
 /// Says of each object that it is missing, or that its names are not known.
-pub(crate) fn say_problems<W: Write, V: Write>(
-    objects: &[Object],
-    report: &mut Report<'_, W, V>,
-) -> Result<(), Stop>
-    ensures { OnOk result (report.new ≡ saying report.old (object_problems (map entry_view objects.now))) }
+pub(crate) fn tell_problems<T: Tell>(objects: &[Object], tell: &mut T) -> Result<(), Stop>
+    ensures { OnOk result (tell.new ≡ saying T.one tell.old (object_problems (map entry_view objects.now))) }
 {
     for object in objects {
-        say_problem(objects, object, report)?;
+        tell_problem(objects, object, tell)?;
     }
     Ok(())
 }
 
-fn say_problem<W: Write, V: Write>(
-    objects: &[Object],
-    object: &Object,
-    report: &mut Report<'_, W, V>,
-) -> Result<(), Stop>
-    ensures { OnOk result (report.new
-        ≡ saying report.old (object_problem (map entry_view objects.now) (entry_view object.now))) }
+fn tell_problem<T: Tell>(objects: &[Object], object: &Object, tell: &mut T) -> Result<(), Stop>
+    ensures { OnOk result (tell.new
+        ≡ saying T.one tell.old (object_problem (map entry_view objects.now) (entry_view object.now))) }
 {
-    match &object.file {
-        Some(file) => say_names(file, report),
-        None => {
-            let name = Quoted::new(&object.name);
-            let loader = Quoted::new(path_at(objects, object.loader));
-            report.problem(FILE, Fault::NotFound(name, loader))
-        }
-    }
-}
-
-// Says that the names of a file are not known.
-fn say_names<W: Write, V: Write>(
-    file: &LoadedFile,
-    report: &mut Report<'_, W, V>,
-) -> Result<(), Stop>
-    ensures { OnOk result (report.new
-        ≡ saying report.old (names_problem (found_view file.now).path (found_view file.now).names)) }
-{
+    let Some(file) = &object.file else {
+        let name = Quoted::new(&object.name);
+        let loader = Quoted::new(path_at(objects, object.loader));
+        return tell.problem(FILE, Fault::NotFound(name, loader));
+    };
     match &file.names {
         Ok(_) => Ok(()),
         Err(error) => {
             let path = Quoted::new(&file.path);
-            report.problem(FILE, Fault::Names(path, NamesFault::new(error)))
+            tell.problem(FILE, Fault::Names(path, NamesFault::new(error)))
         }
     }
 }
@@ -254,13 +235,9 @@ struct Listed {
     depth: usize,
 }
 
-fn say_objects<W: Write, V: Write>(
-    alloc: Global,
-    objects: &[Object],
-    report: &mut Report<'_, W, V>,
-) -> Result<(), Stop>
+fn tell_objects<T: Tell>(alloc: Global, objects: &[Object], tell: &mut T) -> Result<(), Stop>
     ensures { let entries = map entry_view objects.now in
-        OnOk result (report.new ≡ saying report.old (flat_map (listed_said entries) (listed entries))) }
+        OnOk result (tell.new ≡ saying T.one tell.old (flat_map (listed_said entries) (listed entries))) }
 {
     let firsts = firsts(alloc, objects)?;
     let mut waiting = Vec::new(alloc);
@@ -269,7 +246,7 @@ fn say_objects<W: Write, V: Write>(
         let Some(next) = waiting.pop() else {
             return Ok(());
         };
-        say_listed(objects, next, report)?;
+        tell_listed(objects, next, tell)?;
         add_next(objects, &firsts, next, &mut waiting)?;
     }
     Ok(())
@@ -359,37 +336,20 @@ fn add_at(place: Option<usize>, depth: usize, waiting: &mut Vec<Listed>) -> Resu
     }
 }
 
-#[tactic(auto, using(crate::proofs::Walk::saying_nothing))]
-fn say_listed<W: Write, V: Write>(
-    objects: &[Object],
-    next: Listed,
-    report: &mut Report<'_, W, V>,
-) -> Result<(), Stop>
-    ensures { OnOk result (report.new
-        ≡ saying report.old (listed_said (map entry_view objects.now) (listed_view next))) }
+fn tell_listed<T: Tell>(objects: &[Object], next: Listed, tell: &mut T) -> Result<(), Stop>
+    ensures { OnOk result (tell.new
+        ≡ saying T.one tell.old (listed_said (map entry_view objects.now) (listed_view next))) }
 {
-    match object_at(objects, next.place) {
-        Some(object) => say_object(objects, next.depth, object, report),
-        None => Ok(()),
-    }
-}
-
-fn say_object<W: Write, V: Write>(
-    objects: &[Object],
-    depth: usize,
-    object: &Object,
-    report: &mut Report<'_, W, V>,
-) -> Result<(), Stop>
-    ensures { OnOk result (report.new
-        ≡ saying report.old (entry_said (map entry_view objects.now) depth (Some (entry_view object.now)))) }
-{
+    let Some(object) = object_at(objects, next.place) else {
+        return Ok(());
+    };
     let listed = ListedObject {
-        depth,
+        depth: next.depth,
         name: &object.name,
         path: path_of(object),
         loader: path_at(objects, object.loader),
     };
-    listed.say(report)
+    listed.tell(tell)
 }
 
 fn path_of(object: &Object) -> Option<&[u8]>

@@ -1,3 +1,4 @@
 pub mod ShownVersions
+pub mod Parts
 pub mod FaultsSaid
 pub mod Strings

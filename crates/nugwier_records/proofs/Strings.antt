@@ -1,10 +1,11 @@
 -- The strings of a section, one byte more at a time.
-use Rattle.std.proofs.Common.{◌≡◌, ℕ, suc, ◌+◌, ◌-◌, ◌≤◌, ◌<◌, ◌==◌, false, List, [], ◌∷◌, ◌++◌, drop, take, length, get_or, ap, sym, ◌∙◌, subst, arith, append_assoc, length-take-le, take-add}
+use Rattle.std.proofs.Common.{◌≡◌, ℕ, suc, ◌+◌, ◌-◌, ◌≤◌, ◌<◌, ◌==◌, false, List, [], ◌∷◌, ◌++◌, drop, take, length, get_or, ap, sym, ◌∙◌, subst, arith, length-take-le, take-add}
 use Rattle.std.proofs.lemmas.Bool.{ne_eqb}
 use Rattle.std.proofs.lemmas.List.{drop-drop, length-drop}
 use Rattle.std.proofs.Math.Seq.{drop-cons}
 use Rattle.nugwier_records.specs.Contents.{string_said, strings_from}
-use Rattle.nugwier_report.specs.Said.{Said, Telling, saying}
+use Rattle.nugwier_report.specs.Said.{Said, saying}
+use Rattle.nugwier_report.proofs.Saying.{saying_both}
 
 next_byte : (place : ℕ) (all : List ℕ) → place < length all → drop place all ≡ get_or all place 0 ∷ drop (place + 1) all
 next_byte place all in_all =
@@ -42,30 +43,31 @@ goes_on section start place b all rest h is other =
     ap (λ (ys : List ℕ). strings_from section start string ys) is
     ∙ rw other (ap (λ (ys : List ℕ). strings_from section start ys rest) (sym (one_more start place b all rest h is)))
 
--- what is said of the string that is read and of the bytes from here on leads to the same report
-abbrev pub Left : Telling → ℕ → ℕ → ℕ → ℕ → List ℕ → Telling → Type 0
-Left report section start place here all end =
-    saying report (strings_from section start (take (place - start) (drop start all)) (drop here all)) ≡ end
+module _ {T : Type 0} (one : T → Said → T) where
+  -- what is said of the string that is read and of the bytes from here on leads to the same
+  abbrev pub Left : T → ℕ → ℕ → ℕ → ℕ → List ℕ → T → Type 0
+  Left teller section start place here all end =
+      saying one teller (strings_from section start (take (place - start) (drop start all)) (drop here all)) ≡ end
 
--- after a 0 byte
-pub after_zero : (report new end : Telling) (section start place here : ℕ) (all : List ℕ) → place ≡ here → start ≤ place → here < length all → get_or all here 0 ≡ 0 → new ≡ saying report (string_said section start (take (place - start) (drop start all))) → Left report section start place here all end → Left new section (place + 1) (place + 1) (here + 1) all end
-after_zero report new end section start place here all same =
-    subst (λ here. start ≤ place → here < length all → get_or all here 0 ≡ 0 → new ≡ saying report (string_said section start (take (place - start) (drop start all))) → Left report section start place here all end → Left new section (place + 1) (place + 1) (here + 1) all end) same
-    (λ h in_all zero said before.
-    let rest = drop (place + 1) all in
-    let string = take (place - start) (drop start all) in
-    let none : place + 1 - (place + 1) ≡ 0 = omega arith in
-    let is : drop place all ≡ 0 ∷ rest = next_byte place all in_all ∙ ap (λ b. b ∷ rest) zero in
-    ap (λ n. saying new (strings_from section (place + 1) (take n rest) rest)) none
-    ∙ ap (λ (t : Telling). saying t (strings_from section (place + 1) [] rest)) said
-    ∙ ap (λ (t : List Said). record report { said = t }) (append_assoc report.said (string_said section start string) (strings_from section (place + 1) [] rest))
-    ∙ ap (λ (t : List Said). saying report t) (sym (ends section start place all rest h in_all is))
-    ∙ before)
+  -- after a 0 byte
+  pub after_zero : (teller new end : T) (section start place here : ℕ) (all : List ℕ) → place ≡ here → start ≤ place → here < length all → get_or all here 0 ≡ 0 → new ≡ saying one teller (string_said section start (take (place - start) (drop start all))) → Left teller section start place here all end → Left new section (place + 1) (place + 1) (here + 1) all end
+  after_zero teller new end section start place here all same =
+      subst (λ here. start ≤ place → here < length all → get_or all here 0 ≡ 0 → new ≡ saying one teller (string_said section start (take (place - start) (drop start all))) → Left teller section start place here all end → Left new section (place + 1) (place + 1) (here + 1) all end) same
+      (λ h in_all zero said before.
+      let rest = drop (place + 1) all in
+      let string = take (place - start) (drop start all) in
+      let none : place + 1 - (place + 1) ≡ 0 = omega arith in
+      let is : drop place all ≡ 0 ∷ rest = next_byte place all in_all ∙ ap (λ b. b ∷ rest) zero in
+      ap (λ n. saying one new (strings_from section (place + 1) (take n rest) rest)) none
+      ∙ ap (λ (t : T). saying one t (strings_from section (place + 1) [] rest)) said
+      ∙ saying_both one teller (string_said section start string) (strings_from section (place + 1) [] rest)
+      ∙ ap (λ (t : List Said). saying one teller t) (sym (ends section start place all rest h in_all is))
+      ∙ before)
 
--- after another byte
-pub after_other : (report end : Telling) (section start place here : ℕ) (all : List ℕ) → place ≡ here → start ≤ place → here < length all → (get_or all here 0 ≡ 0 → ⊥) → Left report section start place here all end → Left report section start (place + 1) (here + 1) all end
-after_other report end section start place here all same =
-    subst (λ here. start ≤ place → here < length all → (get_or all here 0 ≡ 0 → ⊥) → Left report section start place here all end → Left report section start (place + 1) (here + 1) all end) same
-    (λ h in_all other before.
-    ap (λ (t : List Said). saying report t) (sym (goes_on section start place (get_or all place 0) all (drop (place + 1) all) h (next_byte place all in_all) (ne_eqb (get_or all place 0) 0 other)))
-    ∙ before)
+  -- after another byte
+  pub after_other : (teller end : T) (section start place here : ℕ) (all : List ℕ) → place ≡ here → start ≤ place → here < length all → (get_or all here 0 ≡ 0 → ⊥) → Left teller section start place here all end → Left teller section start (place + 1) (here + 1) all end
+  after_other teller end section start place here all same =
+      subst (λ here. start ≤ place → here < length all → (get_or all here 0 ≡ 0 → ⊥) → Left teller section start place here all end → Left teller section start (place + 1) (here + 1) all end) same
+      (λ h in_all other before.
+      ap (λ (t : List Said). saying one teller t) (sym (goes_on section start place (get_or all place 0) all (drop (place + 1) all) h (next_byte place all in_all) (ne_eqb (get_or all place 0) 0 other)))
+      ∙ before)

@@ -1,10 +1,13 @@
 //! What is said of addresses.
+#![tactic(auto, using(nugwier_report::proofs::Saying::saying_both, crate::proofs::Parts::said_parts))]
+
 ghost use Rattle.std.specs.Prelude.{◌≡◌, OnOk};
+ghost use Rattle.std.specs.Option.{option_copied};
 ghost use Rattle.elf_records.specs.Number.{ok_map};
 ghost use Rattle.elf_records.specs.Table.{table_view};
-ghost use Rattle.nugwier_records.specs.Addresses.{address_kind, address_said, nearest_said, section_content};
-ghost use Rattle.nugwier_records.specs.Addresses.{symbol_name};
-ghost use Rattle.nugwier_writing.specs.Members.{content_of};
+ghost use Rattle.nugwier_records.specs.Addresses.{address_kind, address_members, address_said, nearest_said};
+ghost use Rattle.nugwier_records.specs.Addresses.{section_content, symbol_name};
+ghost use Rattle.nugwier_writing.specs.Members.{content_of, members_said};
 ghost use Rattle.nugwier_report.specs.Said.{saying};
 
 use elf_parts::endian::EndianParse;
@@ -14,11 +17,10 @@ use elf_parts::symbol::SymbolTable;
 use elf_tools::addresses::{Addresses, Nearest};
 use nugwier_report::problem::{Fault, Item, Part, Stop};
 use nugwier_report::quoted::Quoted;
-use nugwier_report::report::Report;
 use nugwier_report::rows::Row;
-use nugwier_writing::json::Value;
+use nugwier_report::tell::{Tell, readable};
+use nugwier_writing::json::{Member, Value};
 use nugwier_writing::kind::Kind;
-use std::io::Write;
 
 /// The symbols among which that of an address is looked for.
 #[derive(Debug, Drop)]
@@ -62,30 +64,22 @@ impl<'a, E: EndianParse> AddressRow<'a, E> {
     }
 
     // Says the nearest symbol of an address, if there is one.
-    fn say_nearest<W: Write, V: Write>(
+    fn tell_nearest<T: Tell>(
         &self,
         one: &PlacedAddress<'_>,
         nearest: Option<Nearest>,
-        report: &mut Report<'_, W, V>,
+        tell: &mut T,
     ) -> Result<(), Stop>
-        ensures { OnOk result (report.new ≡ saying report.old
+        ensures { OnOk result (tell.new ≡ saying T.one tell.old
             (nearest_said (table_view self.now.symbols) self.now.strings one.now nearest)) }
     {
         let part = Part::Address(one.address);
         let Some(nearest) = nearest else {
-            return report.problem(part.whole(), Fault::NoSymbol);
+            return tell.problem(part.whole(), Fault::NoSymbol);
         };
-        let name = report.readable(part.item(Item::Name), self.name_of(nearest.symbol))?;
-        let members = [
-            ("address", Value::Number(one.address)),
-            ("symbol", Value::Number(nearest.symbol as u64)),
-            ("name", Value::Text(name)),
-            ("distance", Value::Number(nearest.distance)),
-            ("is_inside", Value::Flag(nearest.is_inside)),
-            ("value", Value::Number(nearest.value)),
-            ("section", section_value(&one.among)),
-        ];
-        report.state(address_kind(nearest.is_inside), &members)
+        let name = readable(part.item(Item::Name), self.name_of(nearest.symbol), tell)?;
+        let kind = address_kind(nearest.is_inside);
+        tell.state(kind, &address_members(one, &nearest, name))
     }
 }
 
@@ -94,23 +88,41 @@ impl<'a, E: EndianParse> Row for AddressRow<'a, E> {
 
     ghost said = { λ row number one. address_said row.by_address (table_view row.symbols) row.strings one };
 
-    fn say<W: Write, V: Write>(
+    fn tell<T: Tell>(
         &self,
         _number: u64,
         one: &PlacedAddress<'a>,
-        report: &mut Report<'_, W, V>,
+        tell: &mut T,
     ) -> Result<(), Stop> {
         let address = one.address;
         let place = Part::Address(address).whole();
         match &one.among {
-            Among::File => self.say_nearest(one, self.by_address.find(address), report),
+            Among::File => self.tell_nearest(one, self.by_address.find(address), tell),
             Among::Section(number) => {
-                self.say_nearest(one, self.by_address.find_in(*number, address), report)
+                self.tell_nearest(one, self.by_address.find_in(*number, address), tell)
             }
-            Among::NoSection(word) => report.problem(place, Fault::NoSection(word.again())),
-            Among::Unknown => report.problem(place, Fault::NeedsSection),
+            Among::NoSection(word) => tell.problem(place, Fault::NoSection(word.again())),
+            Among::Unknown => tell.problem(place, Fault::NeedsSection),
         }
     }
+}
+
+fn address_members<'a>(
+    one: &PlacedAddress<'_>,
+    nearest: &Nearest,
+    name: Option<&'a [u8]>,
+) -> [Member<'a>; 7]
+    ensures { members_said result ≡ address_members one.now nearest.now (option_copied name.entry) }
+{
+    [
+        ("address", Value::Number(one.address)),
+        ("symbol", Value::Number(nearest.symbol as u64)),
+        ("name", Value::Text(name)),
+        ("distance", Value::Number(nearest.distance)),
+        ("is_inside", Value::Flag(nearest.is_inside)),
+        ("value", Value::Number(nearest.value)),
+        ("section", section_value(&one.among)),
+    ]
 }
 
 // The section that an address is in, if it is looked for in one.

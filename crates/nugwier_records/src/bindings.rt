@@ -1,4 +1,6 @@
 //! What is said of the symbols of a program that are bound.
+#![tactic(auto, using(nugwier_report::proofs::Saying::saying_both, crate::proofs::Parts::said_parts))]
+
 ghost use Rattle.std.specs.Prelude.{◌≡◌, OnOk};
 ghost use Rattle.std.specs.Option.{option_copied};
 ghost use Rattle.nugwier_records.specs.Bindings.{binding_kind, binding_members, binding_said, bound_view, target_index};
@@ -8,10 +10,9 @@ ghost use Rattle.nugwier_report.specs.Said.{saying};
 ghost use Rattle.nugwier_records.specs.Versions.{version_default, version_name};
 
 use nugwier_report::problem::Stop;
-use nugwier_report::report::Report;
+use nugwier_report::tell::Tell;
 use nugwier_writing::json::{Member, Value};
 use nugwier_writing::kind::Kind;
-use std::io::Write;
 
 /// A symbol that is bound.
 #[derive(Clone, Copy)]
@@ -122,18 +123,18 @@ impl<'a> Target<'a> {
 
 /// Says what references of a kind to a symbol bind to; of no kind if no relocation names it. The only error is that of
 /// the writer.
-pub fn say_binding<W: Write, V: Write>(
+pub fn tell_binding<T: Tell>(
     symbol: &BoundSymbol<'_>,
     place: Place,
     reference: Option<&'static str>,
     target: &Target<'_>,
-    report: &mut Report<'_, W, V>,
+    tell: &mut T,
 ) -> Result<(), Stop>
-    ensures { OnOk result (report.new
-        ≡ saying report.old (binding_said (bound_view symbol.now) place (option_copied reference.entry) (target_view target.now))) }
+    ensures { OnOk result (tell.new
+        ≡ saying T.one tell.old (binding_said (bound_view symbol.now) place (option_copied reference.entry) (target_view target.now))) }
 {
     let members = binding_members(symbol, reference, target);
-    report.state(target.kind(place), &members)
+    tell.state(target.kind(place), &members)
 }
 
 fn binding_members<'a>(

@@ -1,4 +1,6 @@
 //! What is said of the chains of hash sections.
+#![tactic(auto, using(nugwier_report::proofs::Saying::saying_both, crate::proofs::Parts::said_parts))]
+
 ghost use Rattle.std.specs.Prelude.{◌≡◌, OnOk};
 ghost use Rattle.std.specs.Option.{option_copied};
 ghost use Rattle.nugwier_records.specs.Chains.{chains_members, chains_said, chains_view, entry_chains_members};
@@ -7,11 +9,10 @@ ghost use Rattle.nugwier_writing.specs.Members.{members_said};
 ghost use Rattle.nugwier_report.specs.Said.{saying};
 
 use nugwier_report::problem::{Part, Stop, part_member};
-use nugwier_report::report::Report;
-use nugwier_report::rows::{Row, say_slice};
+use nugwier_report::rows::{Row, tell_slice};
+use nugwier_report::tell::Tell;
 use nugwier_writing::json::{Member, Value};
 use nugwier_writing::kind::Kind;
-use std::io::Write;
 
 /// How many buckets have a chain of a length, and how many symbols lie in chains that are not longer.
 #[derive(Debug, Clone, Copy)]
@@ -29,52 +30,52 @@ pub struct Chains {
 }
 
 /// Says how long the chains of a hash section are, by its number and its name.
-pub fn say_chains<W: Write, V: Write>(
+pub fn tell_chains<T: Tell>(
     section: u64,
     name: &[u8],
     chains: &Chains,
-    report: &mut Report<'_, W, V>,
+    tell: &mut T,
 ) -> Result<(), Stop>
-    ensures { OnOk result (report.new ≡ saying report.old (chains_said section name.now (chains_view chains.now))) }
+    ensures { OnOk result (tell.new ≡ saying T.one tell.old (chains_said section name.now (chains_view chains.now))) }
 {
-    report.state(
+    tell.state(
         Kind::ChainsHeading,
         &chains_members(section, name, chains.all),
     )?;
-    say_lengths(Part::Section(section), None, chains, report)
+    tell_lengths(Part::Section(section), None, chains, tell)
 }
 
 /// The same of a hash table, by the tag of the dynamic entry that gives its address.
-pub fn say_entry_chains<W: Write, V: Write>(
+pub fn tell_entry_chains<T: Tell>(
     tag: &'static str,
     chains: &Chains,
-    report: &mut Report<'_, W, V>,
+    tell: &mut T,
 ) -> Result<(), Stop>
-    ensures { OnOk result (report.new ≡ saying report.old (entry_chains_said tag.now (chains_view chains.now))) }
+    ensures { OnOk result (tell.new ≡ saying T.one tell.old (entry_chains_said tag.now (chains_view chains.now))) }
 {
-    report.state(
+    tell.state(
         Kind::ChainsTableHeading,
         &entry_chains_members(tag, chains.all),
     )?;
-    say_lengths(Part::Dynamic, Some(tag), chains, report)
+    tell_lengths(Part::Dynamic, Some(tag), chains, tell)
 }
 
 // Says how many chains of a part, or of the table of an entry with this tag, have each length.
-fn say_lengths<W: Write, V: Write>(
+fn tell_lengths<T: Tell>(
     part: Part,
     tag: Option<&'static str>,
     chains: &Chains,
-    report: &mut Report<'_, W, V>,
+    tell: &mut T,
 ) -> Result<(), Stop>
-    ensures { OnOk result (report.new
-        ≡ saying report.old (lengths_said part (option_copied tag.entry) (chains_view chains.now))) }
+    ensures { OnOk result (tell.new
+        ≡ saying T.one tell.old (lengths_said part (option_copied tag.entry) (chains_view chains.now))) }
 {
     let row = LengthRow {
         part,
         tag,
         all: chains.all,
     };
-    say_slice(chains.lengths.as_slice(), &row, report)
+    tell_slice(chains.lengths.as_slice(), &row, tell)
 }
 
 fn chains_members<'a>(section: u64, name: &'a [u8], all: ChainCount) -> [Member<'a>; 3]
@@ -109,14 +110,9 @@ impl Row for LengthRow {
 
     ghost said = { λ row number count. length_said row.part (option_copied row.tag) row.all number count };
 
-    fn say<W: Write, V: Write>(
-        &self,
-        number: u64,
-        count: &ChainCount,
-        report: &mut Report<'_, W, V>,
-    ) -> Result<(), Stop> {
+    fn tell<T: Tell>(&self, number: u64, count: &ChainCount, tell: &mut T) -> Result<(), Stop> {
         let members = length_members(self.part, self.tag, self.all, number, *count);
-        report.state(Kind::ChainLength, &members)
+        tell.state(Kind::ChainLength, &members)
     }
 }
 

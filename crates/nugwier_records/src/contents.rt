@@ -1,4 +1,6 @@
 //! What is said of the content of sections.
+#![tactic(auto, using(nugwier_report::proofs::Saying::saying_both, crate::proofs::Parts::said_parts))]
+
 ghost use Rattle.std.specs.Prelude.{◌≡◌, OnOk};
 ghost use Rattle.nugwier_records.specs.Contents.{compression_members, compression_said, data_said, string_members};
 ghost use Rattle.nugwier_records.specs.Contents.{string_said, strings_said};
@@ -8,20 +10,19 @@ ghost use Rattle.nugwier_report.specs.Said.{saying};
 use elf_abi::to_str::ch_type_to_str;
 use elf_parts::compression::CompressionHeader;
 use nugwier_report::problem::Stop;
-use nugwier_report::report::Report;
+use nugwier_report::tell::Tell;
 use nugwier_writing::json::{Member, Value};
 use nugwier_writing::kind::Kind;
-use std::io::Write;
 
 /// Says how a section is compressed, by its number.
-pub fn say_compression<W: Write, V: Write>(
+pub fn tell_compression<T: Tell>(
     section: u64,
     header: &CompressionHeader,
-    report: &mut Report<'_, W, V>,
+    tell: &mut T,
 ) -> Result<(), Stop>
-    ensures { OnOk result (report.new ≡ saying report.old (compression_said section header.now)) }
+    ensures { OnOk result (tell.new ≡ saying T.one tell.old (compression_said section header.now)) }
 {
-    report.state(Kind::Compression, &compression_members(section, header))
+    tell.state(Kind::Compression, &compression_members(section, header))
 }
 
 fn compression_members(section: u64, header: &CompressionHeader) -> [Member<'static>; 5]
@@ -37,15 +38,15 @@ fn compression_members(section: u64, header: &CompressionHeader) -> [Member<'sta
 }
 
 /// Says the bytes of a section, by its number. The first byte has this address.
-pub fn say_data<W: Write, V: Write>(
+pub fn tell_data<T: Tell>(
     section: u64,
     address: u64,
     bytes: &[u8],
-    report: &mut Report<'_, W, V>,
+    tell: &mut T,
 ) -> Result<(), Stop>
-    ensures { OnOk result (report.new ≡ saying report.old (data_said section address bytes.now)) }
+    ensures { OnOk result (tell.new ≡ saying T.one tell.old (data_said section address bytes.now)) }
 {
-    report.state(
+    tell.state(
         Kind::SectionData,
         &[
             ("section", Value::Number(section)),
@@ -56,18 +57,14 @@ pub fn say_data<W: Write, V: Write>(
 }
 
 /// Says the strings of a section, each with its offset, without empty ones. Bytes after the last 0 byte are no string.
-pub fn say_strings<W: Write, V: Write>(
-    section: u64,
-    bytes: &[u8],
-    report: &mut Report<'_, W, V>,
-) -> Result<(), Stop>
-    ensures { OnOk result (report.new ≡ saying report.old (strings_said section bytes.now)) }
+pub fn tell_strings<T: Tell>(section: u64, bytes: &[u8], tell: &mut T) -> Result<(), Stop>
+    ensures { OnOk result (tell.new ≡ saying T.one tell.old (strings_said section bytes.now)) }
 {
     let mut start = 0;
     let mut place = 0;
     for byte in bytes {
         if *byte == 0 {
-            say_string(section, start as u64, &bytes[start..place], report)?;
+            tell_string(section, start as u64, &bytes[start..place], tell)?;
             start = place + 1;
         }
         place += 1;
@@ -75,17 +72,12 @@ pub fn say_strings<W: Write, V: Write>(
     Ok(())
 }
 
-fn say_string<W: Write, V: Write>(
-    section: u64,
-    start: u64,
-    string: &[u8],
-    report: &mut Report<'_, W, V>,
-) -> Result<(), Stop>
-    ensures { OnOk result (report.new ≡ saying report.old (string_said section start string.now)) }
+fn tell_string<T: Tell>(section: u64, start: u64, string: &[u8], tell: &mut T) -> Result<(), Stop>
+    ensures { OnOk result (tell.new ≡ saying T.one tell.old (string_said section start string.now)) }
 {
     match string {
         [] => Ok(()),
-        _ => report.state(Kind::SectionString, &string_members(section, start, string)),
+        _ => tell.state(Kind::SectionString, &string_members(section, start, string)),
     }
 }
 

@@ -1,4 +1,6 @@
 //! What is said of links to files with debug information.
+#![tactic(auto, using(nugwier_report::proofs::Saying::saying_both, crate::proofs::Parts::said_parts))]
+
 ghost use Rattle.std.specs.Prelude.{◌≡◌, OnOk};
 ghost use Rattle.elf_tools.specs.DebugLink.{alt_link_view, link_view};
 ghost use Rattle.nugwier_records.specs.DebugLinks.{alt_link_members, alt_link_said, link_members, link_said};
@@ -7,20 +9,15 @@ ghost use Rattle.nugwier_report.specs.Said.{saying};
 
 use elf_tools::debug_link::{DebugAltLink, DebugLink};
 use nugwier_report::problem::Stop;
-use nugwier_report::report::Report;
+use nugwier_report::tell::Tell;
 use nugwier_writing::json::{Member, Value};
 use nugwier_writing::kind::Kind;
-use std::io::Write;
 
 /// Says the link of a section, by its number.
-pub fn say_debug_link<W: Write, V: Write>(
-    section: u64,
-    link: DebugLink<'_>,
-    report: &mut Report<'_, W, V>,
-) -> Result<(), Stop>
-    ensures { OnOk result (report.new ≡ saying report.old (link_said section (link_view link.entry))) }
+pub fn tell_debug_link<T: Tell>(section: u64, link: DebugLink<'_>, tell: &mut T) -> Result<(), Stop>
+    ensures { OnOk result (tell.new ≡ saying T.one tell.old (link_said section (link_view link.entry))) }
 {
-    report.state(Kind::DebugLink, &link_members(section, link))
+    tell.state(Kind::DebugLink, &link_members(section, link))
 }
 
 fn link_members(section: u64, link: DebugLink<'_>) -> [Member<'_>; 3]
@@ -34,14 +31,14 @@ fn link_members(section: u64, link: DebugLink<'_>) -> [Member<'_>; 3]
 }
 
 /// Says the link of a section to a file that several files share, by its number.
-pub fn say_debug_alt_link<W: Write, V: Write>(
+pub fn tell_debug_alt_link<T: Tell>(
     section: u64,
     link: DebugAltLink<'_>,
-    report: &mut Report<'_, W, V>,
+    tell: &mut T,
 ) -> Result<(), Stop>
-    ensures { OnOk result (report.new ≡ saying report.old (alt_link_said section (alt_link_view link.entry))) }
+    ensures { OnOk result (tell.new ≡ saying T.one tell.old (alt_link_said section (alt_link_view link.entry))) }
 {
-    report.state(Kind::DebugAltLink, &alt_link_members(section, link))
+    tell.state(Kind::DebugAltLink, &alt_link_members(section, link))
 }
 
 fn alt_link_members(section: u64, link: DebugAltLink<'_>) -> [Member<'_>; 3]

@@ -1,4 +1,6 @@
 //! What is said of dynamic entries.
+#![tactic(auto, using(nugwier_report::proofs::Saying::saying_both, crate::proofs::Parts::said_parts))]
+
 ghost use Rattle.std.specs.Prelude.{◌≡◌, OnOk};
 ghost use Rattle.std.specs.Option.{option_copied};
 ghost use Rattle.nugwier_records.specs.Dynamic.{entry_members, entry_said, flags_in, named_said, nameless_kind};
@@ -12,11 +14,10 @@ use elf_names::tags::tag_name;
 use elf_parts::dynamic::Dyn;
 use elf_parts::string_table::TerminatedStrings;
 use nugwier_report::problem::{Item, Part, Stop};
-use nugwier_report::report::Report;
 use nugwier_report::rows::Row;
+use nugwier_report::tell::{Tell, readable};
 use nugwier_writing::json::{Member, Value};
 use nugwier_writing::kind::Kind;
-use std::io::Write;
 
 /// A dynamic entry of a file for this machine (`e_machine`), with the string that it names in these strings, if there
 /// are any.
@@ -31,24 +32,19 @@ impl Row for EntryRow<'_> {
 
     ghost said = { λ row number entry. entry_said row.machine row.strings number entry };
 
-    fn say<W: Write, V: Write>(
-        &self,
-        number: u64,
-        entry: &Dyn,
-        report: &mut Report<'_, W, V>,
-    ) -> Result<(), Stop> {
+    fn tell<T: Tell>(&self, number: u64, entry: &Dyn, tell: &mut T) -> Result<(), Stop> {
         match &self.strings {
-            Some(strings) if needed_kind(entry).is_some() => say_named(
+            Some(strings) if needed_kind(entry).is_some() => tell_named(
                 Kind::NamedEntry,
                 self.machine,
                 strings,
                 number,
                 entry,
-                report,
+                tell,
             ),
             _ => {
                 let kind = nameless_kind(entry);
-                report.state(kind, &entry_members(self.machine, number, entry, None))
+                tell.state(kind, &entry_members(self.machine, number, entry, None))
             }
         }
     }
@@ -66,14 +62,9 @@ impl Row for NeededRow<'_> {
 
     ghost said = { λ row number entry. needed_said row.machine row.strings number entry };
 
-    fn say<W: Write, V: Write>(
-        &self,
-        number: u64,
-        entry: &Dyn,
-        report: &mut Report<'_, W, V>,
-    ) -> Result<(), Stop> {
+    fn tell<T: Tell>(&self, number: u64, entry: &Dyn, tell: &mut T) -> Result<(), Stop> {
         match needed_kind(entry) {
-            Some(kind) => say_named(kind, self.machine, &self.strings, number, entry, report),
+            Some(kind) => tell_named(kind, self.machine, &self.strings, number, entry, tell),
             None => Ok(()),
         }
     }
@@ -93,19 +84,19 @@ fn needed_kind(entry: &Dyn) -> Option<Kind>
 }
 
 // Says an entry with the string that it names.
-fn say_named<W: Write, V: Write>(
+fn tell_named<T: Tell>(
     kind: Kind,
     machine: u16,
     strings: &TerminatedStrings<'_>,
     number: u64,
     entry: &Dyn,
-    report: &mut Report<'_, W, V>,
+    tell: &mut T,
 ) -> Result<(), Stop>
-    ensures { OnOk result (report.new ≡ saying report.old (named_said kind machine strings.now number entry.now)) }
+    ensures { OnOk result (tell.new ≡ saying T.one tell.old (named_said kind machine strings.now number entry.now)) }
 {
     let place = Part::Dynamic.item(Item::EntryName(number));
-    let name = report.readable(place, strings.get_raw(entry.d_val() as usize))?;
-    report.state(kind, &entry_members(machine, number, entry, name))
+    let name = readable(place, strings.get_raw(entry.d_val() as usize), tell)?;
+    tell.state(kind, &entry_members(machine, number, entry, name))
 }
 
 // The kind of an entry that names no string.

@@ -1,4 +1,6 @@
 //! What is said of section groups.
+#![tactic(auto, using(nugwier_report::proofs::Saying::saying_both, crate::proofs::Parts::said_parts))]
+
 ghost use Rattle.std.specs.Prelude.{◌≡◌, OnOk};
 ghost use Rattle.std.specs.Option.{option_copied};
 ghost use Rattle.elf_names.specs.Flags.{flags_of};
@@ -13,11 +15,10 @@ use elf_parts::endian::EndianParse;
 use elf_parts::parse::{ParseError, ParsingIterator};
 use nugwier_report::names::Labels;
 use nugwier_report::problem::{Fault, Item, Part, Stop};
-use nugwier_report::report::Report;
-use nugwier_report::rows::{Row, say_records};
+use nugwier_report::rows::{Row, tell_records};
+use nugwier_report::tell::{Tell, readable};
 use nugwier_writing::json::{Member, Value};
 use nugwier_writing::kind::Kind;
-use std::io::Write;
 
 /// A section group: its flag word, the numbers of its members, and its signature, which is the name of a symbol.
 #[derive(Drop)]
@@ -38,14 +39,14 @@ fn group_flags() -> Flags
 }
 
 /// Says the group of a section: that its signature cannot be read, then the group, and each member.
-pub fn say_group<E: EndianParse, W: Write, V: Write>(
+pub fn tell_group<E: EndianParse, T: Tell>(
     section: u64,
     group: Group<'_, E>,
     labels: &Labels<'_>,
-    report: &mut Report<'_, W, V>,
+    tell: &mut T,
 ) -> Result<(), Stop>
-    ensures { OnOk result (report.new
-        ≡ saying report.old (group_said (named_by labels.now) section (group_view group.entry))) }
+    ensures { OnOk result (tell.new
+        ≡ saying T.one tell.old (group_said (named_by labels.now) section (group_view group.entry))) }
 {
     let Group {
         flags,
@@ -53,12 +54,12 @@ pub fn say_group<E: EndianParse, W: Write, V: Write>(
         signature,
     } = group;
     let place = Part::Section(section).item(Item::Signature);
-    let signature = report.readable(place, signature)?;
-    report.state(
+    let signature = readable(place, signature, tell)?;
+    tell.state(
         Kind::Group,
         &group_members(labels, section, flags, signature),
     )?;
-    say_records(members, &MemberRow { section, labels }, report)
+    tell_records(members, &MemberRow { section, labels }, tell)
 }
 
 fn group_members<'a>(
@@ -91,20 +92,15 @@ impl Row for MemberRow<'_> {
 
     ghost said = { λ row number member. member_said (named_by row.labels.now) row.section number member };
 
-    fn say<W: Write, V: Write>(
-        &self,
-        number: u64,
-        member: &u32,
-        report: &mut Report<'_, W, V>,
-    ) -> Result<(), Stop> {
+    fn tell<T: Tell>(&self, number: u64, member: &u32, tell: &mut T) -> Result<(), Stop> {
         if is_section(self.labels, *member) {
-            report.state(
+            tell.state(
                 Kind::GroupMember,
                 &member_members(self.labels, self.section, number, *member),
             )
         } else {
             let place = Part::Section(self.section).item(Item::Member(*member as u64));
-            report.problem(place, Fault::Missing)
+            tell.problem(place, Fault::Missing)
         }
     }
 }

@@ -1,4 +1,6 @@
 //! What is said of the file header.
+#![tactic(auto, using(nugwier_report::proofs::Saying::saying_both, crate::proofs::Parts::said_parts))]
+
 ghost use Rattle.std.specs.Prelude.{◌≡◌, ◌∷◌, [], OnOk};
 ghost use Rattle.nugwier_records.specs.Header.{class_name, class_number, header_members, header_said, order_name};
 ghost use Rattle.nugwier_records.specs.Header.{order_number};
@@ -12,20 +14,19 @@ use elf_parts::endian::EndianParse;
 use elf_parts::file::{Class, FileHeader};
 use nugwier_report::hardening::{FileKind, kind_name};
 use nugwier_report::problem::Stop;
-use nugwier_report::report::Report;
+use nugwier_report::tell::Tell;
 use nugwier_writing::json::{Member, Value};
 use nugwier_writing::kind::Kind;
-use std::io::Write;
 
 /// Says the fields of a file header (gABI, chapter "ELF Header"), and what the file is, if that is known.
-pub fn say_header<E: EndianParse, W: Write, V: Write>(
+pub fn tell_header<E: EndianParse, T: Tell>(
     header: &FileHeader<E>,
     kind: Option<FileKind>,
-    report: &mut Report<'_, W, V>,
+    tell: &mut T,
 ) -> Result<(), Stop>
-    ensures { OnOk result (report.new ≡ saying report.old (header_said E.little header.now kind)) }
+    ensures { OnOk result (tell.new ≡ saying T.one tell.old (header_said E.little header.now kind)) }
 {
-    report.state(Kind::FileHeader, &header_members(header, kind))
+    tell.state(Kind::FileHeader, &header_members(header, kind))
 }
 
 #[tactic(auto, unfolding(crate::specs::Header::header_members))]

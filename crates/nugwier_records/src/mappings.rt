@@ -1,4 +1,6 @@
 //! What is said of the memory that a loader maps.
+#![tactic(auto, using(nugwier_report::proofs::Saying::saying_both, crate::proofs::Parts::said_parts))]
+
 ghost use Rattle.std.specs.Prelude.{◌≡◌};
 ghost use Rattle.nugwier_records.specs.Mappings.{mapping_members, mapping_said};
 ghost use Rattle.nugwier_writing.specs.Members.{members_said};
@@ -6,11 +8,10 @@ ghost use Rattle.nugwier_writing.specs.Members.{members_said};
 use elf_names::flags::segment_flags;
 use elf_tools::load_plan::Mapping;
 use nugwier_report::problem::Stop;
-use nugwier_report::report::Report;
 use nugwier_report::rows::Row;
+use nugwier_report::tell::Tell;
 use nugwier_writing::json::{Member, Value};
 use nugwier_writing::kind::Kind;
-use std::io::Write;
 
 /// A mapping.
 #[derive(Clone, Copy)]
@@ -21,13 +22,8 @@ impl Row for MappingRow {
 
     ghost said = { λ row number mapping. mapping_said number mapping };
 
-    fn say<W: Write, V: Write>(
-        &self,
-        _number: u64,
-        mapping: &Mapping,
-        report: &mut Report<'_, W, V>,
-    ) -> Result<(), Stop> {
-        report.state(Kind::Mapping, &mapping_members(mapping))
+    fn tell<T: Tell>(&self, _number: u64, mapping: &Mapping, tell: &mut T) -> Result<(), Stop> {
+        tell.state(Kind::Mapping, &mapping_members(mapping))
     }
 }
 

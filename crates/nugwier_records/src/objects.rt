@@ -1,14 +1,15 @@
 //! What is said of the objects of a program.
+#![tactic(auto, using(nugwier_report::proofs::Saying::saying_both, crate::proofs::Parts::said_parts))]
+
 ghost use Rattle.std.specs.Prelude.{◌≡◌, OnOk};
 ghost use Rattle.std.specs.Option.{option_copied};
 ghost use Rattle.nugwier_records.specs.Objects.{listed_view, object_kind, object_said};
 ghost use Rattle.nugwier_report.specs.Said.{saying};
 
 use nugwier_report::problem::Stop;
-use nugwier_report::report::Report;
+use nugwier_report::tell::Tell;
 use nugwier_writing::json::Value;
 use nugwier_writing::kind::Kind;
-use std::io::Write;
 
 /// The program, a library that it loads, or one that was not found.
 #[derive(Clone, Copy)]
@@ -25,8 +26,8 @@ pub struct ListedObject<'a> {
 
 impl ListedObject<'_> {
     /// Says it of the object. The only error is that of the writer.
-    pub fn say<W: Write, V: Write>(&self, report: &mut Report<'_, W, V>) -> Result<(), Stop>
-        ensures { OnOk result (report.new ≡ saying report.old (object_said (listed_view self.now))) }
+    pub fn tell<T: Tell>(&self, tell: &mut T) -> Result<(), Stop>
+        ensures { OnOk result (tell.new ≡ saying T.one tell.old (object_said (listed_view self.now))) }
     {
         let members = [
             ("depth", Value::Number(self.depth as u64)),
@@ -34,7 +35,7 @@ impl ListedObject<'_> {
             ("path", Value::Text(self.path)),
             ("loader", Value::Text(Some(self.loader))),
         ];
-        report.state(self.kind(), &members)
+        tell.state(self.kind(), &members)
     }
 
     fn kind(&self) -> Kind

@@ -1,7 +1,10 @@
 //! What is said of relocations.
-ghost use Rattle.std.specs.Prelude.{◌≡◌, ◌∷◌, [], OnOk, Some};
+#![tactic(auto, using(nugwier_report::proofs::Saying::saying_both, crate::proofs::Parts::said_parts))]
+
+ghost use Rattle.std.specs.Prelude.{◌≡◌, ◌∷◌, ◌++◌, [], IfOk, OnOk, Some};
 ghost use Rattle.std.specs.List.{flat_map};
 ghost use Rattle.std.specs.Option.{option_copied, option_map};
+ghost use Rattle.std.specs.Result.{result_ok};
 ghost use Rattle.elf_dynamic.specs.Relr.{addresses_left};
 ghost use Rattle.elf_records.specs.Number.{ok_map};
 ghost use Rattle.nugwier_report.specs.Labels.{named_by};
@@ -11,8 +14,8 @@ ghost use Rattle.nugwier_records.specs.Relocations.{mips_little_info, name_of_sy
 ghost use Rattle.nugwier_records.specs.Relocations.{relative_members, relocation_members, stated};
 ghost use Rattle.nugwier_records.specs.Relocations.{relative_said, relocation_said, symbol_name, table_name, type_name};
 ghost use Rattle.nugwier_records.specs.Relocations.{used_symbol, used_view, version_used};
-ghost use Rattle.nugwier_report.specs.Said.{saying};
-ghost use Rattle.nugwier_records.specs.Symbols.{version_read};
+ghost use Rattle.nugwier_report.specs.Said.{saying, unread};
+ghost use Rattle.nugwier_records.specs.Symbols.{version_known, version_read};
 ghost use Rattle.nugwier_records.specs.Versions.{version_view};
 
 use crate::symbols::version_parts;
@@ -28,13 +31,12 @@ use elf_parts::relocation::{Relocation, RelocationFields};
 use elf_parts::string_table::TerminatedStrings;
 use elf_parts::symbol::{Symbol, SymbolTable};
 use nugwier_report::names::Labels;
-use nugwier_report::problem::{Item, Part, Stop, part_member};
-use nugwier_report::report::Report;
+use nugwier_report::problem::{Item, Part, Place, Stop, part_member};
 use nugwier_report::rows::Row;
+use nugwier_report::tell::{Tell, readable};
 use nugwier_writing::json::{Member, Value};
 use nugwier_writing::kind::Kind;
 use nugwier_writing::slices::first_of;
-use std::io::Write;
 use std::marker::PhantomData;
 
 /// What relocations are decoded by: the machine, the class and the byte order of their file.
@@ -174,6 +176,28 @@ struct UsedName<'a> {
     version: Result<Option<ShownVersion<'a>>, ParseError>,
 }
 
+impl<'a> UsedName<'a> {
+    // The name and the version, if they can be read. Tells that they cannot.
+    fn shown<T: Tell>(
+        self,
+        place: Place,
+        tell: &mut T,
+    ) -> Result<(Option<&'a [u8]>, Option<ShownVersion<'a>>), Stop>
+        ensures name { IfOk result (λ both. option_copied both.0
+            ≡ result_ok (ok_map (λ name. name.now) self.entry.name)) }
+        ensures version { IfOk result (λ both. option_map version_view both.1
+            ≡ version_known (ok_map (option_map version_view) self.entry.version)) }
+        ensures wrong { OnOk result (tell.new ≡ saying T.one tell.old
+            (unread place (ok_map (λ name. name.now) self.entry.name)
+            ++ unread place (ok_map (option_map version_view) self.entry.version))) }
+    {
+        let UsedName { name, version } = self;
+        let name = readable(place, name, tell)?;
+        let version = readable(place, version, tell)?;
+        Ok((name, version.flatten()))
+    }
+}
+
 impl<'a, E: EndianParse, V: SymbolVersions<E>> Symbols<'a, E, V> {
     // The symbol of this number; none of number 0, which is none.
     fn symbol(&self, number: u32) -> Result<Option<Symbol>, ParseError>
@@ -263,18 +287,12 @@ impl<E: EndianParse, V: SymbolVersions<E>, R: Relocation> Row for RelocationRow<
     ghost said = { λ row number relocation. relocation_said row.machine row.part
         (option_map (used_view V.versions) row.symbols) number (R.fields relocation) };
 
-    fn say<W: Write, P: Write>(
-        &self,
-        number: u64,
-        relocation: &R,
-        report: &mut Report<'_, W, P>,
-    ) -> Result<(), Stop> {
+    fn tell<T: Tell>(&self, number: u64, relocation: &R, tell: &mut T) -> Result<(), Stop> {
         let relocation = relocation.fields();
         let info = info_of(self.machine, &relocation);
-        let UsedName { name, version } = used_name(&self.symbols, info.symbol);
+        let used = used_name(&self.symbols, info.symbol);
         let place = self.part.item(Item::RelocationSymbol(number));
-        let name = report.readable(place, name)?;
-        let version = report.readable(place, version)?.flatten();
+        let (name, version) = used.shown(place, tell)?;
         let members = members_of(
             self.machine,
             self.part,
@@ -284,21 +302,17 @@ impl<E: EndianParse, V: SymbolVersions<E>, R: Relocation> Row for RelocationRow<
             name,
             version,
         );
-        state(info.mips, &members, report)
+        state(info.mips, &members, tell)
     }
 }
 
 // States a relocation. Of files that are not 64-bit ones of MIPS the last members say nothing.
-fn state<W: Write, P: Write>(
-    mips: Option<MipsInfo>,
-    members: &[Member<'_>],
-    report: &mut Report<'_, W, P>,
-) -> Result<(), Stop>
-    ensures { OnOk result (report.new ≡ saying report.old (stated mips (members_said members.now) ∷ [])) }
+fn state<T: Tell>(mips: Option<MipsInfo>, members: &[Member<'_>], tell: &mut T) -> Result<(), Stop>
+    ensures { OnOk result (tell.new ≡ saying T.one tell.old (stated mips (members_said members.now) ∷ [])) }
 {
     match mips {
-        Some(_) => report.state(Kind::MipsRelocation, members),
-        None => report.state(Kind::Relocation, first_of(PLAIN_MEMBERS, members)),
+        Some(_) => tell.state(Kind::MipsRelocation, members),
+        None => tell.state(Kind::Relocation, first_of(PLAIN_MEMBERS, members)),
     }
 }
 
@@ -361,16 +375,16 @@ fn addend_of(addend: Option<i64>) -> Value<'static>
 }
 
 /// Says the addresses of packed relative relocations.
-pub fn say_relative<E: EndianParse, W: Write, V: Write>(
+pub fn tell_relative<E: EndianParse, T: Tell>(
     part: Part,
     addresses: RelrIterator<'_, E>,
-    report: &mut Report<'_, W, V>,
+    tell: &mut T,
 ) -> Result<(), Stop>
-    ensures { OnOk result (report.new
-        ≡ saying report.old (flat_map (relative_said part) (addresses_left addresses.entry))) }
+    ensures { OnOk result (tell.new
+        ≡ saying T.one tell.old (flat_map (relative_said part) (addresses_left addresses.entry))) }
 {
     for address in addresses {
-        report.state(Kind::Relative, &relative_members(part, address))?;
+        tell.state(Kind::Relative, &relative_members(part, address))?;
     }
     Ok(())
 }

@@ -1,4 +1,6 @@
 //! What is said of sections.
+#![tactic(auto, using(nugwier_report::proofs::Saying::saying_both, crate::proofs::Parts::said_parts))]
+
 ghost use Rattle.std.specs.Prelude.{◌≡◌, IfOk, OnOk};
 ghost use Rattle.std.specs.Option.{option_copied};
 ghost use Rattle.nugwier_writing.specs.Members.{members_said};
@@ -10,11 +12,10 @@ use elf_names::sections::section_type_name;
 use elf_parts::section::SectionHeader;
 use elf_parts::string_table::TerminatedStrings;
 use nugwier_report::problem::{Item, Part, Stop};
-use nugwier_report::report::Report;
 use nugwier_report::rows::Row;
+use nugwier_report::tell::{Tell, readable};
 use nugwier_writing::json::{Member, Value};
 use nugwier_writing::kind::Kind;
-use std::io::Write;
 
 /// A section of a file for this machine (`e_machine`), with its name in these strings, if there are any.
 #[derive(Drop)]
@@ -28,14 +29,14 @@ impl Row for SectionRow<'_> {
 
     ghost said = { λ row number section. section_said row.machine row.names number section };
 
-    fn say<W: Write, V: Write>(
+    fn tell<T: Tell>(
         &self,
         number: u64,
         section: &SectionHeader,
-        report: &mut Report<'_, W, V>,
+        tell: &mut T,
     ) -> Result<(), Stop> {
-        let name = section_name(&self.names, number, section, report)?;
-        report.state(
+        let name = section_name(&self.names, number, section, tell)?;
+        tell.state(
             Kind::Section,
             &section_members(self.machine, number, section, name),
         )
@@ -43,20 +44,20 @@ impl Row for SectionRow<'_> {
 }
 
 // The name of a section; no name if there are no names.
-fn section_name<'a, W: Write, V: Write>(
+fn section_name<'a, T: Tell>(
     names: &Option<TerminatedStrings<'a>>,
     number: u64,
     section: &SectionHeader,
-    report: &mut Report<'_, W, V>,
+    tell: &mut T,
 ) -> Result<Option<&'a [u8]>, Stop>
     ensures name { IfOk result (λ name. option_copied name ≡ name_read names.now section.now) }
-    ensures wrong { OnOk result (report.new ≡ saying report.old (name_unread names.now number section.now)) }
+    ensures wrong { OnOk result (tell.new ≡ saying T.one tell.old (name_unread names.now number section.now)) }
 {
     let Some(names) = names else {
         return Ok(Some(&[]));
     };
     let place = Part::Section(number).item(Item::Name);
-    report.readable(place, names.get_raw(section.sh_name as usize))
+    readable(place, names.get_raw(section.sh_name as usize), tell)
 }
 
 fn section_members<'a>(

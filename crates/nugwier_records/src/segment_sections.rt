@@ -1,4 +1,6 @@
 //! What is said of the sections that belong to each segment.
+#![tactic(auto, using(nugwier_report::proofs::Saying::saying_both, crate::proofs::Parts::said_parts))]
+
 ghost use Rattle.std.specs.Prelude.{◌≡◌, ◌<◌, length, OnOk};
 ghost use Rattle.std.specs.Option.{option_copied};
 ghost use Rattle.nugwier_writing.specs.Members.{members_said};
@@ -16,30 +18,29 @@ use elf_parts::section::SectionHeader;
 use elf_parts::segment::ProgramHeader;
 use elf_parts::string_table::TerminatedStrings;
 use nugwier_report::problem::{Fault, Part, Stop};
-use nugwier_report::report::Report;
-use nugwier_report::rows::{Row, say_slice};
+use nugwier_report::rows::{Row, tell_slice};
+use nugwier_report::tell::Tell;
 use nugwier_writing::json::{Member, Value};
 use nugwier_writing::kind::Kind;
-use std::io::Write;
 
 /// Says the sections of each segment, with their names in these strings, if there are any.
-pub fn say_segments_sections<W: Write, V: Write>(
+pub fn tell_segments_sections<T: Tell>(
     names: Option<TerminatedStrings<'_>>,
     sections: &[SectionHeader],
     segments: &[ProgramHeader],
-    report: &mut Report<'_, W, V>,
+    tell: &mut T,
 ) -> Result<(), Stop>
-    ensures { OnOk result (report.new
-        ≡ saying report.old (segments_sections_said names.entry sections.now segments.now)) }
+    ensures { OnOk result (tell.new
+        ≡ saying T.one tell.old (segments_sections_said names.entry sections.now segments.now)) }
 {
     if sections.is_empty() || segments.is_empty() {
         return Ok(());
     }
     if are_too_many(sections, segments) {
-        return report.problem(Part::SectionHeaders.whole(), Fault::TooMany);
+        return tell.problem(Part::SectionHeaders.whole(), Fault::TooMany);
     }
-    report.state(Kind::SegmentSectionsHeading, &[])?;
-    say_slice(segments, &SegmentRow { names, sections }, report)
+    tell.state(Kind::SegmentSectionsHeading, &[])?;
+    tell_slice(segments, &SegmentRow { names, sections }, tell)
 }
 
 fn are_too_many(sections: &[SectionHeader], segments: &[ProgramHeader]) -> bool
@@ -61,20 +62,20 @@ impl Row for SegmentRow<'_> {
 
     ghost said = { λ row number segment. segment_sections_said row.names row.sections.now number segment };
 
-    fn say<W: Write, V: Write>(
+    fn tell<T: Tell>(
         &self,
         number: u64,
         segment: &ProgramHeader,
-        report: &mut Report<'_, W, V>,
+        tell: &mut T,
     ) -> Result<(), Stop> {
-        report.state(Kind::SegmentSections, &segment_members(number))?;
+        tell.state(Kind::SegmentSections, &segment_members(number))?;
         let row = SectionRow {
             names: &self.names,
             number,
             segment: *segment,
         };
-        say_slice(self.sections, &row, report)?;
-        report.state(Kind::SegmentSectionsEnd, &[])
+        tell_slice(self.sections, &row, tell)?;
+        tell.state(Kind::SegmentSectionsEnd, &[])
     }
 }
 
@@ -98,15 +99,15 @@ impl Row for SectionRow<'_> {
     ghost said = { λ row number section.
         section_in_segment_said row.names.now row.number row.segment number section };
 
-    fn say<W: Write, V: Write>(
+    fn tell<T: Tell>(
         &self,
         number: u64,
         section: &SectionHeader,
-        report: &mut Report<'_, W, V>,
+        tell: &mut T,
     ) -> Result<(), Stop> {
         if number != 0 && is_in_segment(section, &self.segment) {
             let members = segment_section_members(self.names, self.number, number, section);
-            report.state(Kind::SegmentSection, &members)
+            tell.state(Kind::SegmentSection, &members)
         } else {
             Ok(())
         }

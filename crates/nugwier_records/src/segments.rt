@@ -1,4 +1,6 @@
 //! What is said of segments.
+#![tactic(auto, using(nugwier_report::proofs::Saying::saying_both, crate::proofs::Parts::said_parts))]
+
 ghost use Rattle.std.specs.Prelude.{◌≡◌, OnOk};
 ghost use Rattle.nugwier_writing.specs.Members.{members_said};
 ghost use Rattle.nugwier_report.specs.Said.{saying};
@@ -8,11 +10,10 @@ use elf_names::flags::segment_flags;
 use elf_names::segments::segment_type_name;
 use elf_parts::segment::ProgramHeader;
 use nugwier_report::problem::Stop;
-use nugwier_report::report::Report;
 use nugwier_report::rows::Row;
+use nugwier_report::tell::Tell;
 use nugwier_writing::json::{Member, Value};
 use nugwier_writing::kind::Kind;
-use std::io::Write;
 
 /// A segment of a file for this machine (`e_machine`).
 #[derive(Clone, Copy)]
@@ -25,13 +26,13 @@ impl Row for SegmentRow {
 
     ghost said = { λ row number segment. segment_said row.machine number segment };
 
-    fn say<W: Write, V: Write>(
+    fn tell<T: Tell>(
         &self,
         number: u64,
         segment: &ProgramHeader,
-        report: &mut Report<'_, W, V>,
+        tell: &mut T,
     ) -> Result<(), Stop> {
-        report.state(
+        tell.state(
             Kind::Segment,
             &segment_members(self.machine, number, segment),
         )
@@ -64,14 +65,10 @@ fn segment_members(machine: u16, number: u64, segment: &ProgramHeader) -> [Membe
 }
 
 /// Says the path of the program that loads the file, which the segment of this number has.
-pub fn say_interpreter<W: Write, V: Write>(
-    number: u64,
-    path: &[u8],
-    report: &mut Report<'_, W, V>,
-) -> Result<(), Stop>
-    ensures { OnOk result (report.new ≡ saying report.old (interpreter_said number path.now)) }
+pub fn tell_interpreter<T: Tell>(number: u64, path: &[u8], tell: &mut T) -> Result<(), Stop>
+    ensures { OnOk result (tell.new ≡ saying T.one tell.old (interpreter_said number path.now)) }
 {
-    report.state(
+    tell.state(
         Kind::Interpreter,
         &[
             ("segment", Value::Number(number)),

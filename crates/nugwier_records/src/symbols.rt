@@ -1,10 +1,12 @@
 //! What is said of symbols.
-ghost use Rattle.std.specs.Prelude.{◌≡◌, IfOk, OnOk};
+#![tactic(auto, using(nugwier_report::proofs::Saying::saying_both, crate::proofs::Parts::said_parts))]
+
+ghost use Rattle.std.specs.Prelude.{◌≡◌, ◌∷◌, [], IfOk, OnOk};
 ghost use Rattle.std.specs.Option.{option_copied, option_map};
 ghost use Rattle.std.specs.Result.{result_ok};
 ghost use Rattle.elf_records.specs.StringTable.{string_at};
 ghost use Rattle.nugwier_writing.specs.Members.{content_of, members_said};
-ghost use Rattle.nugwier_report.specs.Said.{saying, unread};
+ghost use Rattle.nugwier_report.specs.Said.{saying, states, unread};
 ghost use Rattle.nugwier_records.specs.Symbols.{form_view, is_data, is_export, is_function, is_listed, letter_in, letter_of};
 ghost use Rattle.nugwier_records.specs.Symbols.{order_of};
 ghost use Rattle.nugwier_records.specs.Symbols.{section_letter, shown_letter, st_shndx_name, symbol_kind, symbol_members};
@@ -21,13 +23,12 @@ use elf_parts::section::SectionHeader;
 use elf_parts::string_table::TerminatedStrings;
 use elf_parts::symbol::Symbol;
 use nugwier_report::problem::{Fault, Item, Part, Stop};
-use nugwier_report::report::Report;
 use nugwier_report::rows::Row;
 use nugwier_report::symbol_options::{SymbolOptions, SymbolOrder};
+use nugwier_report::tell::{Tell, readable};
 use nugwier_writing::json::{Member, Value};
 use nugwier_writing::kind::Kind;
 use nugwier_writing::slices::rest_of;
-use std::io::Write;
 use std::marker::PhantomData;
 
 /// What the names and the versions of symbols are read from.
@@ -43,32 +44,32 @@ pub struct Names<'a, E: EndianParse, V: SymbolVersions<E> + Drop> {
 
 impl<'a, E: EndianParse, V: SymbolVersions<E> + Drop> Names<'a, E, V> {
     // The name of a symbol. It is a problem if it cannot be read.
-    fn name<W: Write, P: Write>(
+    fn name<T: Tell>(
         &self,
         number: u64,
         symbol: &Symbol,
-        report: &mut Report<'_, W, P>,
+        tell: &mut T,
     ) -> Result<Option<&'a [u8]>, Stop>
         ensures name { IfOk result (λ name. option_copied name
             ≡ result_ok (string_at self.now.strings symbol.now.st_name)) }
-        ensures wrong { OnOk result (report.new ≡ saying report.old
+        ensures wrong { OnOk result (tell.new ≡ saying T.one tell.old
             (unread (record { part = self.now.part; item = SymbolName number })
             (string_at self.now.strings symbol.now.st_name))) }
     {
         let place = self.part.item(Item::SymbolName(number));
-        report.readable(place, self.strings.get_raw(symbol.st_name as usize))
+        readable(place, self.strings.get_raw(symbol.st_name as usize), tell)
     }
 
     // The version of a symbol. It is a problem if it cannot be read.
-    fn version<W: Write, P: Write>(
+    fn version<T: Tell>(
         &self,
         number: u64,
         symbol: &Symbol,
-        report: &mut Report<'_, W, P>,
+        tell: &mut T,
     ) -> Result<Option<ShownVersion<'_>>, Stop>
         ensures version { IfOk result (λ version. option_map version_view version
             ≡ version_known (version_read (option_map V.versions self.now.versions) number symbol.now)) }
-        ensures wrong { OnOk result (report.new ≡ saying report.old
+        ensures wrong { OnOk result (tell.new ≡ saying T.one tell.old
             (unread (record { part = self.now.part; item = SymbolVersion number })
             (version_read (option_map V.versions self.now.versions) number symbol.now))) }
     {
@@ -79,7 +80,7 @@ impl<'a, E: EndianParse, V: SymbolVersions<E> + Drop> Names<'a, E, V> {
             Ok(version) => Ok(version),
             Err(error) => {
                 let place = self.part.item(Item::SymbolVersion(number));
-                report.problem(place, Fault::Read(error))?;
+                tell.problem(place, Fault::Read(error))?;
                 Ok(None)
             }
         }
@@ -166,22 +167,42 @@ impl<'a, E: EndianParse, V: SymbolVersions<E> + Drop> Row for SymbolRow<'a, E, V
     ghost said = { λ row number symbol. symbol_said (form_view row.form) row.names.part row.names.strings
         (option_map V.versions row.names.versions) number symbol };
 
-    fn say<W: Write, P: Write>(
-        &self,
-        number: u64,
-        symbol: &Symbol,
-        report: &mut Report<'_, W, P>,
-    ) -> Result<(), Stop> {
+    fn tell<T: Tell>(&self, number: u64, symbol: &Symbol, tell: &mut T) -> Result<(), Stop> {
         if !self.form.lists(number, symbol) {
             return Ok(());
         }
-        let name = self.names.name(number, symbol, report)?;
-        let version = self.names.version(number, symbol, report)?;
-        let kind = self.form.kind(symbol);
-        let letter = self.form.letter(symbol);
-        let members = symbol_members(self.names.part, number, symbol, name, version, letter);
-        report.state(kind, &members)
+        let name = self.names.name(number, symbol, tell)?;
+        let version = self.names.version(number, symbol, tell)?;
+        tell_symbol(
+            self.form,
+            self.names.part,
+            number,
+            symbol,
+            name,
+            version,
+            tell,
+        )
     }
+}
+
+// Tells a symbol, by its name and its version.
+fn tell_symbol<'a, T: Tell>(
+    form: Form<'_>,
+    part: Part,
+    number: u64,
+    symbol: &Symbol,
+    name: Option<&'a [u8]>,
+    version: Option<ShownVersion<'a>>,
+    tell: &mut T,
+) -> Result<(), Stop>
+    ensures { let form = form_view form.entry in OnOk result (tell.new ≡ saying T.one tell.old
+        (states (symbol_kind form symbol.now) (symbol_members part number symbol.now (option_copied name.entry)
+        (option_map version_view version.entry) (shown_letter form symbol.now)) ∷ [])) }
+{
+    let kind = form.kind(symbol);
+    let letter = form.letter(symbol);
+    let members = symbol_members(part, number, symbol, name, version, letter);
+    tell.state(kind, &members)
 }
 
 fn symbol_members<'a>(

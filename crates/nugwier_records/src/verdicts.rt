@@ -1,4 +1,6 @@
 //! What is said of whether a file is sound.
+#![tactic(auto, using(nugwier_report::proofs::Saying::saying_both, crate::proofs::Parts::said_parts))]
+
 ghost use Rattle.std.specs.Prelude.{◌≡◌, List, OnOk, Some, IfOk, string_bytes};
 ghost use Rattle.std.specs.List.{flat_map};
 ghost use Rattle.nugwier_writing.specs.Members.{members_said};
@@ -9,33 +11,32 @@ ghost use Rattle.nugwier_records.specs.Verdicts.{sound_file_members, sound_membe
 
 use elf_check::faults::FileFault;
 use nugwier_report::problem::{Fault, Part, Stop, part_member};
-use nugwier_report::report::Report;
+use nugwier_report::tell::Tell;
 use nugwier_writing::json::{Member, Value};
 use nugwier_writing::kind::Kind;
 use std::alloc::Global;
-use std::io::Write;
 
 /// Says that the file of this path is sound, or all its faults, if it has any.
-pub fn say_verdict<W: Write, V: Write>(
+pub fn tell_verdict<T: Tell>(
     alloc: Global,
     path: &str,
     faults: &[FileFault],
-    report: &mut Report<'_, W, V>,
+    tell: &mut T,
 ) -> Result<(), Stop>
     ensures { OnOk result ((said : List Said) × IsVerdictSaid path.now faults.now said
-        × (report.new ≡ saying report.old said)) }
+        × (tell.new ≡ saying T.one tell.old said)) }
 {
     if faults.is_empty() {
-        return say_sound(path, report);
+        return tell_sound(path, tell);
     }
-    say_faults(alloc, faults, report)
+    tell_faults(alloc, faults, tell)
 }
 
-fn say_sound<W: Write, V: Write>(path: &str, report: &mut Report<'_, W, V>) -> Result<(), Stop>
-    ensures { OnOk result (report.new ≡ saying report.old (sound_said path.now)) }
+fn tell_sound<T: Tell>(path: &str, tell: &mut T) -> Result<(), Stop>
+    ensures { OnOk result (tell.new ≡ saying T.one tell.old (sound_said path.now)) }
 {
-    report.state(Kind::SoundFile, &sound_file_members(path))?;
-    report.state(Kind::Verdict, &sound_members())
+    tell.state(Kind::SoundFile, &sound_file_members(path))?;
+    tell.state(Kind::Verdict, &sound_members())
 }
 
 fn sound_file_members<'a>(path: &'a str) -> [Member<'a>; 1]
@@ -54,30 +55,22 @@ fn sound_members() -> [Member<'static>; 3]
     ]
 }
 
-fn say_faults<W: Write, V: Write>(
-    alloc: Global,
-    faults: &[FileFault],
-    report: &mut Report<'_, W, V>,
-) -> Result<(), Stop>
-    ensures { OnOk result (report.new ≡ saying report.old (flat_map fault_said faults.now)) }
+fn tell_faults<T: Tell>(alloc: Global, faults: &[FileFault], tell: &mut T) -> Result<(), Stop>
+    ensures { OnOk result (tell.new ≡ saying T.one tell.old (flat_map fault_said faults.now)) }
 {
     for fault in faults {
-        say_fault(alloc, *fault, report)?;
+        tell_fault(alloc, *fault, tell)?;
     }
     Ok(())
 }
 
 // Says a fault: a record with its text, then the problem.
-fn say_fault<W: Write, V: Write>(
-    alloc: Global,
-    fault: FileFault,
-    report: &mut Report<'_, W, V>,
-) -> Result<(), Stop>
-    ensures { OnOk result (report.new ≡ saying report.old (fault_said fault)) }
+fn tell_fault<T: Tell>(alloc: Global, fault: FileFault, tell: &mut T) -> Result<(), Stop>
+    ensures { OnOk result (tell.new ≡ saying T.one tell.old (fault_said fault)) }
 {
     let text = text_of(alloc, fault)?;
-    report.state(Kind::Verdict, &fault_members(fault, text.as_str()))?;
-    report.problem(part_of(fault).whole(), told_of(fault))
+    tell.state(Kind::Verdict, &fault_members(fault, text.as_str()))?;
+    tell.problem(part_of(fault).whole(), told_of(fault))
 }
 
 fn fault_members<'a>(fault: FileFault, text: &'a str) -> [Member<'a>; 3]

@@ -1,12 +1,14 @@
 //! What is said of the versions that a file defines, and of those that it needs of other files.
+#![tactic(auto, using(nugwier_report::proofs::Saying::saying_both, crate::proofs::Parts::said_parts))]
+
 ghost use Rattle.std.specs.Prelude.{◌≡◌, IfOk, OnOk};
 ghost use Rattle.std.specs.Option.{option_copied};
 ghost use Rattle.elf_parts.specs.gnu_symver.Lists.{ver_def_aux_left, ver_defs_left, ver_need_aux_left, ver_needs_left};
 ghost use Rattle.nugwier_writing.specs.Members.{members_said};
 ghost use Rattle.nugwier_report.specs.Said.{saying};
 ghost use Rattle.nugwier_records.specs.VersionRecords.{definition_members, definition_said, definitions_said};
-ghost use Rattle.nugwier_records.specs.VersionRecords.{name_said, names_said};
-ghost use Rattle.nugwier_records.specs.VersionRecords.{need_said, needs_said, version_name, version_name_unread};
+ghost use Rattle.nugwier_records.specs.VersionRecords.{name_members, name_said, names_said, need_members, need_said};
+ghost use Rattle.nugwier_records.specs.VersionRecords.{needs_said, version_members, version_name, version_name_unread};
 ghost use Rattle.nugwier_records.specs.VersionRecords.{version_said, versions_said};
 
 use elf_names::flags::version_flags;
@@ -17,10 +19,9 @@ use elf_parts::gnu_symver::{
 };
 use elf_parts::string_table::TerminatedStrings;
 use nugwier_report::problem::{Item, Part, Stop, part_member};
-use nugwier_report::report::Report;
+use nugwier_report::tell::{Tell, readable};
 use nugwier_writing::json::{Member, Value};
 use nugwier_writing::kind::Kind;
-use std::io::Write;
 
 /// The section of definitions or of needed versions, and the strings that have their names.
 #[derive(Drop)]
@@ -31,48 +32,43 @@ pub struct VersionNames<'a> {
 
 impl<'a> VersionNames<'a> {
     // The name at this offset, for a version of this index. Says a problem if it cannot be read.
-    fn name<W: Write, V: Write>(
-        &self,
-        index: u16,
-        offset: u32,
-        report: &mut Report<'_, W, V>,
-    ) -> Result<Option<&'a [u8]>, Stop>
+    fn name<T: Tell>(&self, index: u16, offset: u32, tell: &mut T) -> Result<Option<&'a [u8]>, Stop>
         ensures name { IfOk result (λ name. option_copied name ≡ version_name self.now.strings offset) }
-        ensures wrong { OnOk result (report.new ≡ saying report.old
+        ensures wrong { OnOk result (tell.new ≡ saying T.one tell.old
             (version_name_unread self.now.part self.now.strings index offset)) }
     {
         let place = self.part.item(Item::VersionName(index as u64));
-        report.readable(place, self.strings.get_raw(offset as usize))
+        readable(place, self.strings.get_raw(offset as usize), tell)
     }
 }
 
 /// Says the versions that a file defines, each with its names.
-pub fn say_definitions<E: EndianParse, W: Write, V: Write>(
+pub fn tell_definitions<E: EndianParse, T: Tell>(
     definitions: VerDefIterator<'_, E>,
     names: &VersionNames<'_>,
-    report: &mut Report<'_, W, V>,
+    tell: &mut T,
 ) -> Result<(), Stop>
-    ensures { OnOk result (report.new ≡ saying report.old
+    ensures { OnOk result (tell.new ≡ saying T.one tell.old
         (definitions_said names.now.part names.now.strings (ver_defs_left definitions.entry))) }
 {
     for (definition, records) in definitions {
-        say_definition(&definition, records, names, report)?;
+        tell_definition(&definition, records, names, tell)?;
     }
     Ok(())
 }
 
-fn say_definition<E: EndianParse, W: Write, V: Write>(
+fn tell_definition<E: EndianParse, T: Tell>(
     definition: &VerDef,
     records: VerDefAuxIterator<'_, E>,
     names: &VersionNames<'_>,
-    report: &mut Report<'_, W, V>,
+    tell: &mut T,
 ) -> Result<(), Stop>
-    ensures { OnOk result (report.new ≡ saying report.old
+    ensures { OnOk result (tell.new ≡ saying T.one tell.old
         (definition_said names.now.part names.now.strings (definition.now, ver_def_aux_left records.entry))) }
 {
-    report.state(Kind::Verdef, &definition_members(names.part, definition))?;
-    say_names(definition.vd_ndx, records, names, report)?;
-    report.state(Kind::VerdefEnd, &[])
+    tell.state(Kind::Verdef, &definition_members(names.part, definition))?;
+    tell_names(definition.vd_ndx, records, names, tell)?;
+    tell.state(Kind::VerdefEnd, &[])
 }
 
 fn definition_members(part: Part, definition: &VerDef) -> [Member<'static>; 6]
@@ -92,103 +88,132 @@ fn definition_members(part: Part, definition: &VerDef) -> [Member<'static>; 6]
 }
 
 // Says the names of the definition of this index.
-fn say_names<E: EndianParse, W: Write, V: Write>(
+fn tell_names<E: EndianParse, T: Tell>(
     index: u16,
     records: VerDefAuxIterator<'_, E>,
     names: &VersionNames<'_>,
-    report: &mut Report<'_, W, V>,
+    tell: &mut T,
 ) -> Result<(), Stop>
-    ensures { OnOk result (report.new ≡ saying report.old
+    ensures { OnOk result (tell.new ≡ saying T.one tell.old
         (names_said names.now.part names.now.strings index (ver_def_aux_left records.entry))) }
 {
     for aux in records {
-        say_name(index, &aux, names, report)?;
+        tell_name(index, &aux, names, tell)?;
     }
     Ok(())
 }
 
-fn say_name<W: Write, V: Write>(
+fn tell_name<T: Tell>(
     index: u16,
     aux: &VerDefAux,
     names: &VersionNames<'_>,
-    report: &mut Report<'_, W, V>,
+    tell: &mut T,
 ) -> Result<(), Stop>
-    ensures { OnOk result (report.new ≡ saying report.old
+    ensures { OnOk result (tell.new ≡ saying T.one tell.old
         (name_said names.now.part names.now.strings index aux.now)) }
 {
-    let name = names.name(index, aux.vda_name, report)?;
-    let members = [
-        part_member(names.part),
+    let name = names.name(index, aux.vda_name, tell)?;
+    tell.state(Kind::Verdaux, &name_members(names.part, index, aux, name))
+}
+
+fn name_members<'a>(
+    part: Part,
+    index: u16,
+    aux: &VerDefAux,
+    name: Option<&'a [u8]>,
+) -> [Member<'a>; 4]
+    ensures { members_said result ≡ name_members part index aux.now (option_copied name.entry) }
+{
+    [
+        part_member(part),
         ("vd_ndx", Value::Number(index as u64)),
         ("vda_name", Value::Number(aux.vda_name as u64)),
         ("name", Value::Text(name)),
-    ];
-    report.state(Kind::Verdaux, &members)
+    ]
 }
 
 /// Says the files from which versions are needed, each with these versions.
-pub fn say_needs<E: EndianParse, W: Write, V: Write>(
+pub fn tell_needs<E: EndianParse, T: Tell>(
     needs: VerNeedIterator<'_, E>,
     names: &VersionNames<'_>,
-    report: &mut Report<'_, W, V>,
+    tell: &mut T,
 ) -> Result<(), Stop>
-    ensures { OnOk result (report.new ≡ saying report.old
+    ensures { OnOk result (tell.new ≡ saying T.one tell.old
         (needs_said names.now.part names.now.strings (ver_needs_left needs.entry))) }
 {
     for (need, records) in needs {
-        say_need(&need, records, names, report)?;
+        tell_need(&need, records, names, tell)?;
     }
     Ok(())
 }
 
-fn say_need<E: EndianParse, W: Write, V: Write>(
+fn tell_need<E: EndianParse, T: Tell>(
     need: &VerNeed,
     records: VerNeedAuxIterator<'_, E>,
     names: &VersionNames<'_>,
-    report: &mut Report<'_, W, V>,
+    tell: &mut T,
 ) -> Result<(), Stop>
-    ensures { OnOk result (report.new ≡ saying report.old
+    ensures { OnOk result (tell.new ≡ saying T.one tell.old
         (need_said names.now.part names.now.strings (need.now, ver_need_aux_left records.entry))) }
 {
-    let file = names.name(0, need.vn_file, report)?;
-    let members = [
-        part_member(names.part),
+    let file = names.name(0, need.vn_file, tell)?;
+    tell.state(Kind::Verneed, &need_members(names.part, need, file))?;
+    tell_versions(need.vn_file, records, names, tell)
+}
+
+fn need_members<'a>(part: Part, need: &VerNeed, name: Option<&'a [u8]>) -> [Member<'a>; 4]
+    ensures { members_said result ≡ need_members part need.now (option_copied name.entry) }
+{
+    [
+        part_member(part),
         ("vn_cnt", Value::Number(need.vn_cnt as u64)),
         ("vn_file", Value::Number(need.vn_file as u64)),
-        ("name", Value::Text(file)),
-    ];
-    report.state(Kind::Verneed, &members)?;
-    say_versions(need.vn_file, records, names, report)
+        ("name", Value::Text(name)),
+    ]
 }
 
 // Says the versions that are needed from the file whose name is at this offset.
-fn say_versions<E: EndianParse, W: Write, V: Write>(
+fn tell_versions<E: EndianParse, T: Tell>(
     file: u32,
     records: VerNeedAuxIterator<'_, E>,
     names: &VersionNames<'_>,
-    report: &mut Report<'_, W, V>,
+    tell: &mut T,
 ) -> Result<(), Stop>
-    ensures { OnOk result (report.new ≡ saying report.old
+    ensures { OnOk result (tell.new ≡ saying T.one tell.old
         (versions_said names.now.part names.now.strings file (ver_need_aux_left records.entry))) }
 {
     for aux in records {
-        say_version(file, &aux, names, report)?;
+        tell_version(file, &aux, names, tell)?;
     }
     Ok(())
 }
 
-fn say_version<W: Write, V: Write>(
+fn tell_version<T: Tell>(
     file: u32,
     version: &VerNeedAux,
     names: &VersionNames<'_>,
-    report: &mut Report<'_, W, V>,
+    tell: &mut T,
 ) -> Result<(), Stop>
-    ensures { OnOk result (report.new ≡ saying report.old
+    ensures { OnOk result (tell.new ≡ saying T.one tell.old
         (version_said names.now.part names.now.strings file version.now)) }
 {
-    let name = names.name(version.vna_other, version.vna_name, report)?;
-    let members = [
-        part_member(names.part),
+    let name = names.name(version.vna_other, version.vna_name, tell)?;
+    tell.state(
+        Kind::Vernaux,
+        &version_members(names.part, file, version, name),
+    )
+}
+
+fn version_members<'a>(
+    part: Part,
+    file: u32,
+    version: &VerNeedAux,
+    name: Option<&'a [u8]>,
+) -> [Member<'a>; 8]
+    ensures { members_said result ≡ version_members part file version.now (option_copied name.entry) }
+{
+    [
+        part_member(part),
         ("vn_file", Value::Number(file as u64)),
         ("vna_hash", Value::Number(version.vna_hash as u64)),
         ("vna_flags", Value::Number(version.vna_flags as u64)),
@@ -199,6 +224,5 @@ fn say_version<W: Write, V: Write>(
         ("vna_other", Value::Number(version.vna_other as u64)),
         ("vna_name", Value::Number(version.vna_name as u64)),
         ("name", Value::Text(name)),
-    ];
-    report.state(Kind::Vernaux, &members)
+    ]
 }

@@ -4,7 +4,8 @@ use Rattle.std.specs.Result.{OnOk}
 use Rattle.std.specs.Iterator.{Drains, YieldsFirst, YieldsFirstBy}
 use Rattle.std.proofs.lemmas.List.{append-nil}
 use Rattle.elfshow_lines.proofs.Listing.{drained_by}
-use Rattle.nugwier_report.specs.Said.{Said, Telling, numbered, saying}
+use Rattle.nugwier_report.specs.Said.{Said, numbered, saying}
+use Rattle.nugwier_report.proofs.Saying.{then_said}
 
 numbered_more : {X : Type 0} (said : ℕ → X → List Said) (k : ℕ) (xs : List X) (x : X) → numbered said k (xs ++ x ∷ []) ≡ numbered said k xs ++ said (k + length xs) x
 numbered_more said k [] x = let here : k ≡ k + 0 = omega arith in append-nil (said k x) ∙ ap (λ n. said n x) here
@@ -15,13 +16,13 @@ numbered_more said k (y ∷ xs) x =
     ∙ ap (λ n. (said k y ++ numbered said (k + 1) xs) ++ said n x) there
 
 -- what is said after one more item
-pub said_more : {X : Type 0} (said : ℕ → X → List Said) (n : ℕ) (xs : List X) (x : X) (before now after : Telling) → n ≡ length xs → now ≡ saying before (numbered said 0 xs) → after ≡ saying now (said n x) → after ≡ saying before (numbered said 0 (xs ++ x ∷ []))
-said_more said n xs x before now after count so more =
+pub said_more : {A X : Type 0} (one : A → Said → A) (said : ℕ → X → List Said) (n : ℕ) (xs : List X) (x : X) (before now after : A) → n ≡ length xs → now ≡ saying one before (numbered said 0 xs) → after ≡ saying one now (said n x)
+    → after ≡ saying one before (numbered said 0 (xs ++ x ∷ []))
+said_more one said n xs x before now after count so more =
     let here : length xs ≡ 0 + length xs = omega arith in
-    more ∙ ap (λ (t : Telling). saying t (said n x)) so
-    ∙ ap (λ (t : List Said). record before { said = t }) (append_assoc before.said (numbered said 0 xs) (said n x)
-    ∙ ap (λ (m : ℕ). before.said ++ (numbered said 0 xs ++ said m x)) (count ∙ here)
-    ∙ ap (λ (t : List Said). before.said ++ t) (sym (numbered_more said 0 xs x)))
+    then_said one before now after (numbered said 0 xs) (said n x) so more
+    ∙ ap (λ (m : ℕ). saying one before (numbered said 0 xs ++ said m x)) (count ∙ here)
+    ∙ ap (λ (t : List Said). saying one before t) (sym (numbered_more said 0 xs x))
 
 -- an iterator whose state shows the list that is left gives that list
 pub drained : {S A : Type 0} (rest : S → List A) (s : S) (xs : List A) → Drains (YieldsFirst rest) s xs → xs ≡ rest s

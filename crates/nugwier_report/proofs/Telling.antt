@@ -2,8 +2,8 @@
 use Rattle.std.proofs.Common.{◌≡◌, ℕ, Bool, true, false, ◌&&◌, List, [], ◌∷◌, ◌++◌, Option, Some, None, Result, Ok, Err, refl, sym, ap, ◌∙◌, append_assoc, append-nil}
 use Rattle.std.proofs.lemmas.Bool.{and_parts}
 use Rattle.std.specs.Io.KnownBytes.{Appends}
+use Rattle.std.specs.List.{list_all}
 use Rattle.std.specs.Result.{OnOk, is_ok}
-use Rattle.nugwier_report.specs.Said.{Said, all_right, is_right_one}
 use Rattle.nugwier_report.specs.Texts.{AreAppended, AreTexts, Written}
 
 -- ---- texts of several things
@@ -50,17 +50,24 @@ appends_none (Some a) = sym (append-nil a)
 
 -- ---- a report
 
-pub right_more : (said : List Said) (s : Said) → is_right_one s ≡ true → all_right (said ++ s ∷ []) ≡ all_right said
-right_more [] s h = ap (λ (b : Bool). b && true) h
-right_more (x ∷ xs) s h = ap (λ (b : Bool). is_right_one x && b) (right_more xs s h)
-
 and_false : (b : Bool) → (b && false) ≡ false
 and_false true = refl
 and_false false = refl
 
-pub wrong_more : (said : List Said) (s : Said) → is_right_one s ≡ false → all_right (said ++ s ∷ []) ≡ false
-wrong_more [] s h = ap (λ (b : Bool). b && true) h
-wrong_more (x ∷ xs) s h = ap (λ (b : Bool). is_right_one x && b) (wrong_more xs s h) ∙ and_false (is_right_one x)
+module _ {A : Type 0} (right : A → Bool) where
+  right_more : (said : List A) (s : A) → right s ≡ true → list_all right (said ++ s ∷ []) ≡ list_all right said
+  right_more [] s h = ap (λ (b : Bool). b && true) h
+  right_more (x ∷ xs) s h = ap (λ (b : Bool). right x && b) (right_more xs s h)
+
+  wrong_more : (said : List A) (s : A) → right s ≡ false → list_all right (said ++ s ∷ []) ≡ false
+  wrong_more [] s h = ap (λ (b : Bool). b && true) h
+  wrong_more (x ∷ xs) s h = ap (λ (b : Bool). right x && b) (wrong_more xs s h) ∙ and_false (right x)
+
+  pub right_then : (was : Bool) (said said' : List A) (s : A) → was ≡ list_all right said → said' ≡ said ++ s ∷ [] → right s ≡ true → was ≡ list_all right said'
+  right_then was said said' s h more is = rw more (h ∙ sym (right_more said s is))
+
+  pub wrong_then : (said said' : List A) (s : A) → said' ≡ said ++ s ∷ [] → right s ≡ false → false ≡ list_all right said'
+  wrong_then said said' s more is = rw more (sym (wrong_more said s is))
 
 abbrev pub start : Option (List ℕ) → Option (List ℕ) → Written
 start out err = record { out = out; err = err }
@@ -111,9 +118,3 @@ pub told_more : {X E : Type 0} (told : Bool) (r : Result X E) (now next : Option
 told_more false r now next own written kept = absurd (cc kept)
 told_more true (Err e) now next own written kept = absurd (cc kept)
 told_more true (Ok x) now next own written kept = (refl, written)
-
-pub right_then : (right : Bool) (said said' : List Said) (s : Said) → right ≡ all_right said → said' ≡ said ++ s ∷ [] → is_right_one s ≡ true → right ≡ all_right said'
-right_then right said said' s h more is = rw more (h ∙ sym (right_more said s is))
-
-pub wrong_then : (said said' : List Said) (s : Said) → said' ≡ said ++ s ∷ [] → is_right_one s ≡ false → false ≡ all_right said'
-wrong_then said said' s more is = rw more (sym (wrong_more said s is))

@@ -4,6 +4,8 @@ pub mod Said
 pub mod Formats
 -- what the code says, as what is said
 pub mod Noted
+-- a page of a report after something was told on it
+pub mod Leaves
 -- the texts of several things
 pub mod Texts
 -- the text of problems: of the errors of the libraries, of the sections that they name, and of each problem

@@ -1,5 +1,6 @@
 -- What nugwier says of a file: records with their members, and problems with their places.
-use Rattle.std.specs.Prelude.{ℕ, ◌+◌, Bool, true, false, ◌&&◌, List, [], ◌∷◌, ◌++◌, Option, Some, None, Result, Ok, Err}
+use Rattle.std.specs.Prelude.{◌≡◌, ℕ, ◌+◌, Bool, true, false, List, [], ◌∷◌, ◌++◌, map, Option, Some, None, Result, Ok, Err}
+use Rattle.std.specs.List.{list_all}
 use Rattle.elf_records.specs.declared.parse.ParseError.{ParseError}
 use Rattle.nugwier_report.specs.Labels.{Named}
 use Rattle.nugwier_report.specs.declared.problem.Fault.{Fault}
@@ -46,20 +47,44 @@ is_right_one (wrong place fault) = false
 
 -- whether nothing is wrong
 abbrev pub all_right : List Said → Bool
-all_right [] = true
-all_right (s ∷ said) = is_right_one s && all_right said
+all_right said = list_all is_right_one said
 
--- a report: how it is written, the sections with which problems are told, what the writers of records and of
--- problems had, whether a write of a record failed, and what was said
-pub record Telling : Type 0 where
+-- a page of a report: the path of a file, and the sections with which its problems are told
+pub record Page : Type 0 where
   pub path : List ℕ
-  pub format : Format
   pub named : Named
+
+-- something that is said on a page
+abbrev pub Line : Type 0
+Line = Page × Said
+
+abbrev pub on_page : Page → List Said → List Line
+on_page page said = map (λ s. (page, s)) said
+
+abbrev pub is_right_line : Line → Bool
+is_right_line line = is_right_one line.1
+
+-- a report: how it is written, what the writers of records and of problems had, whether a write of a record failed, and
+-- what was said
+pub record Reporting : Type 0 where
+  pub format : Format
   pub start : Option (List ℕ)
   pub told_start : Option (List ℕ)
   pub is_lost : Bool
-  pub said : List Said
+  pub said : List Line
 
--- the report after more was said
-abbrev pub saying : Telling → List Said → Telling
-saying r more = record r { said = r.said ++ more }
+-- the report after one thing more was said
+abbrev pub also_said : Reporting → Line → Reporting
+also_said r line = record r { said = r.said ++ line ∷ [] }
+
+-- ---- a teller
+
+-- after all of these were told, one after another
+abbrev pub saying : {A L : Type 0} → (A → L → A) → A → List L → A
+saying one t [] = t
+saying one t (x ∷ xs) = saying one (one t x) xs
+
+-- what was told is one of several things that may be said, unless nothing comes of what is told
+abbrev pub IsToldAs : {A : Type 0} → (A → Bool) → (A → Said → A) → (List Said → Type 0) → A → A → Type 0
+IsToldAs silent one IsSaid before after =
+    silent before ≡ false → (said : List Said) × IsSaid said × (after ≡ saying one before said)

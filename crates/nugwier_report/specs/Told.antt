@@ -1,5 +1,6 @@
 -- What a report writes: a line for each record and, as JSON, for each problem. Problems are also told elsewhere.
 use Rattle.std.specs.Prelude.{◌≡◌, ℕ, ◌&&◌, false, List, [], ◌∷◌, Option, Some, None, codes}
+use Rattle.std.specs.List.{list_all}
 use Rattle.elf_records.specs.declared.file.Class.{Class}
 use Rattle.nugwier_writing.specs.Json.{object}
 use Rattle.nugwier_writing.specs.Kinds.{is_heading, layout_of}
@@ -7,7 +8,7 @@ use Rattle.nugwier_report.specs.Labels.{Named, label_of}
 use Rattle.nugwier_report.specs.Parts.{part_member}
 use Rattle.nugwier_report.specs.Problems.{IsTextAt, problem_line}
 use Rattle.nugwier_writing.specs.Members.{Content, Members, number, text}
-use Rattle.nugwier_report.specs.Said.{Said, all_right, states, wrong}
+use Rattle.nugwier_report.specs.Said.{Line, Said, is_right_line, states, wrong}
 use Rattle.nugwier_writing.specs.Text.{bold_if, look_of, row_text}
 use Rattle.nugwier_report.specs.Texts.{AreAppended, Written}
 use Rattle.nugwier_writing.specs.declared.kind.Kind.{Kind}
@@ -59,9 +60,13 @@ AreLines format path named (wrong place fault) line problem =
     × (line ≡ problem_record format path (place_member (label_of named place.part) place.part) told)
     × (problem ≡ problem_line path told)
 
+-- the same of a line, on its page
+abbrev pub AreTextsOfLine : Format → Line → List ℕ → List ℕ → Type 0
+AreTextsOfLine format line out err = AreLines format line.0.path line.0.named line.1 out err
+
 -- what was said was written after what the writers had: its records, and, unless a write of a problem failed, its
 -- problems. The summary says whether nothing of it is wrong
-abbrev pub IsWritten : Format → List ℕ → Named → Written → Written → Summary → List Said → Type 0
-IsWritten format path named before after summary said =
-    AreAppended (AreLines format path named) false summary.is_told before after said
-    × (summary.is_right ≡ all_right said)
+abbrev pub IsWritten : Format → Written → Written → Summary → List Line → Type 0
+IsWritten format before after summary said =
+    AreAppended (AreTextsOfLine format) false summary.is_told before after said
+    × (summary.is_right ≡ list_all is_right_line said)

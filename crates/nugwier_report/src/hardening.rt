@@ -1,4 +1,6 @@
 //! What is said of how a file is hardened against attacks, and what may be required of it.
+#![tactic(auto, using(crate::proofs::Saying::saying_both))]
+
 ghost use Rattle.std.specs.Prelude.{◌≡◌, OnOk};
 ghost use Rattle.std.specs.Option.{option_copied, option_map};
 ghost use Rattle.elf_names.specs.Flags.{flags_of};
@@ -11,12 +13,11 @@ ghost use Rattle.nugwier_writing.specs.Members.{content_of, members_said};
 ghost use Rattle.nugwier_report.specs.Said.{saying};
 
 use crate::problem::Stop;
-use crate::report::Report;
+use crate::tell::Tell;
 use elf_abi::abi;
 use elf_names::flags::Flags;
 use nugwier_writing::json::{Member, Value};
 use nugwier_writing::kind::Kind;
-use std::io::Write;
 
 /// What a file is, by its type and how it is linked.
 #[derive(Clone, Copy)]
@@ -248,17 +249,17 @@ pub fn feature_flags(machine: u16) -> Flags
 }
 
 /// Says how the file of this path is hardened: a row for people, and an object of JSON.
-pub fn say_hardening<W: Write, V: Write>(
+pub fn tell_hardening<T: Tell>(
     path: &str,
     hardening: &Hardening,
     paths: SearchPaths<'_>,
-    report: &mut Report<'_, W, V>,
+    tell: &mut T,
 ) -> Result<(), Stop>
-    ensures { OnOk result (report.new
-        ≡ saying report.old (hardening_said path.now hardening.now (paths_view paths.entry))) }
+    ensures { OnOk result (tell.new
+        ≡ saying T.one tell.old (hardening_said path.now hardening.now (paths_view paths.entry))) }
 {
-    report.state(Kind::HardenedFile, &row_members(path, hardening, paths))?;
-    report.state(Kind::Hardening, &hardening_members(hardening, paths))
+    tell.state(Kind::HardenedFile, &row_members(path, hardening, paths))?;
+    tell.state(Kind::Hardening, &hardening_members(hardening, paths))
 }
 
 // What is known to hold.

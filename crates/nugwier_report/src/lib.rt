@@ -1,5 +1,5 @@
-//! A report of a file (`report`): what is said of it is written as it comes, each record (`nugwier_writing`) and each
-//! problem (`problem`) with its place.
+//! A report of many files (`report`, `run`): what is told of each (`tell`) is written as it comes, each record
+//! (`nugwier_writing`) and each problem (`problem`) with its place.
 #![tactic(auto)]
 
 mod error_texts;
@@ -11,4 +11,6 @@ pub mod problem;
 pub mod quoted;
 pub mod report;
 pub mod rows;
+pub mod run;
 pub mod symbol_options;
+pub mod tell;

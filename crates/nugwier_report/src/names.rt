@@ -18,6 +18,13 @@ pub struct Labels<'a> {
     pub names: Option<TerminatedStrings<'a>>,
 }
 
+/// No section has a name with which problems are told, and no line has an address.
+pub const NO_LABELS: Labels<'static> = Labels {
+    class: Class::ELF64,
+    sections: &[],
+    names: None,
+};
+
 impl<'a> Labels<'a> {
     /// Returns the number and the name of the section of a part of the file, if it is in one. A name that is not known
     /// is empty.

@@ -1,4 +1,6 @@
 //! What is wrong in a file, and where.
+#![tactic(auto, using(crate::proofs::Saying::saying_both))]
+
 ghost use Rattle.std.specs.Prelude.{◌≡◌};
 ghost use Rattle.nugwier_report.specs.Parts.{part_member, tag_name};
 ghost use Rattle.nugwier_report.specs.Said.{whole};
@@ -265,6 +267,8 @@ impl fmt::Display for Fault<'_> {
 /// Why a listing stops.
 #[derive(Debug, Drop)]
 pub enum Stop {
+    /// The bytes from a start to an end, which lie in the file, are not loaded.
+    Missing((u64, u64)),
     /// The writer failed.
     Write(io::Error),
     /// An allocation failed.

@@ -1,20 +1,21 @@
-//! A report of a file: what is said of it is written as it comes.
-ghost use Rattle.std.specs.Prelude.{◌≡◌, ◌∷◌, [], ◌++◌, false, true, IfOk, OnOk, string_bytes};
+//! A report of many files: what is said of each is written as it comes.
+#![tactic(auto, using(crate::proofs::Saying::saying_both))]
+
+ghost use Rattle.std.specs.Prelude.{◌≡◌, [], ◌++◌, false, IfOk, OnOk, string_bytes};
 ghost use Rattle.std.specs.Io.KnownBytes.{Appends};
-ghost use Rattle.std.specs.Result.{result_ok};
+ghost use Rattle.std.specs.List.{list_all};
 ghost use Rattle.nugwier_writing.specs.Kinds.{layout_of};
-ghost use Rattle.nugwier_report.specs.Labels.{label_seen, named_by};
+ghost use Rattle.nugwier_report.specs.Labels.{label_seen};
 ghost use Rattle.nugwier_writing.specs.Members.{member_said, members_said};
 ghost use Rattle.nugwier_report.specs.Problems.{IsTextAt, problem_line};
-ghost use Rattle.nugwier_report.specs.Said.{all_right, saying, states, unread, wrong};
+ghost use Rattle.nugwier_report.specs.Said.{is_right_line};
 ghost use Rattle.nugwier_report.specs.Texts.{AreAppended};
-ghost use Rattle.nugwier_report.specs.Told.{AreLines, object_if, place_member, problem_record, record_line, text_of};
+ghost use Rattle.nugwier_report.specs.Told.{AreTextsOfLine, object_if, place_member, problem_record, record_line, text_of};
 
 use crate::log::{Log, Note};
-use crate::names::Labels;
 use crate::problem::{Fault, Part, Place, Stop, Told, part_member};
+use crate::run::{Page, Run};
 use elf_parts::file::Class;
-use elf_parts::parse::ParseError;
 use nugwier_writing::escape::Escaped;
 use nugwier_writing::json::{Member, Value, write_object};
 use nugwier_writing::kind::Kind;
@@ -33,13 +34,11 @@ pub enum Format {
     Text(Style),
 }
 
-/// A report of the file of this path. Contracts see what was said.
+/// A report of many files. Contracts see what was said.
 #[derive(Drop)]
-pub struct Report<'p, W: Write, V: Write> {
+pub struct Report<W: Write, V: Write> {
     alloc: Global,
-    path: &'p str,
     format: Format,
-    labels: Labels<'p>,
     out: W,
     err: V,
     is_lost: bool,
@@ -59,50 +58,37 @@ pub struct Summary {
     pub is_told: bool,
 }
 
-impl<'p, W: Write, V: Write> Model for Report<'p, W, V> {
+impl<W: Write, V: Write> Model for Report<W, V> {
     ghost use Rattle.std.specs.Prelude.{◌≡◌};
-    ghost use Rattle.nugwier_report.specs.Labels.{named_by};
-    ghost use Rattle.nugwier_report.specs.Said.{Telling, all_right};
+    ghost use Rattle.std.specs.List.{list_all};
+    ghost use Rattle.nugwier_report.specs.Said.{Reporting, is_right_line};
     ghost use Rattle.nugwier_report.specs.Texts.{AreAppended};
-    ghost use Rattle.nugwier_report.specs.Told.{AreLines};
+    ghost use Rattle.nugwier_report.specs.Told.{AreTextsOfLine};
 
-    ghost Value = { Telling };
+    ghost Value = { Reporting };
 
     ghost view = { λ r. record {
-      path = r.path.now;
       format = r.format;
-      named = named_by r.labels;
       start = W.contents r.log.start;
       told_start = V.contents r.told.start;
-      is_lost =
-          r.is_lost;
+      is_lost = r.is_lost;
       said = r.log.said;
     } };
 
-    ghost invariant = { λ r. AreAppended (AreLines r.format r.path.now (named_by r.labels)) r.is_lost r.is_told
+    ghost invariant = { λ r. AreAppended (AreTextsOfLine r.format) r.is_lost r.is_told
         (record { out = W.contents r.log.start; err = V.contents r.told.start })
         (record { out = W.contents r.out; err = V.contents r.err }) r.log.said
-        × (r.is_right ≡ all_right r.log.said) };
+        × (r.is_right ≡ list_all is_right_line r.log.said) };
 }
 
-impl<'p, W: Write, V: Write> Report<'p, W, V> {
-    /// A report in which nothing was said yet. Problems are told with the names of their sections, by these labels.
-    pub fn new(
-        alloc: Global,
-        path: &'p str,
-        format: Format,
-        labels: Labels<'p>,
-        out: W,
-        err: V,
-    ) -> Report<'p, W, V>
+impl<W: Write, V: Write> Report<W, V> {
+    /// A report in which nothing was said yet.
+    pub fn new(alloc: Global, format: Format, out: W, err: V) -> Report<W, V>
         ensures { result ≡ record {
-          path = path.now;
           format = format;
-          named = named_by labels.entry;
           start = W.contents out;
           told_start = V.contents err;
-          is_lost =
-              false;
+          is_lost = false;
           said = [];
         } }
     {
@@ -110,9 +96,7 @@ impl<'p, W: Write, V: Write> Report<'p, W, V> {
         let told = Log::new(&err);
         Report {
             alloc,
-            path,
             format,
-            labels,
             out,
             err,
             is_lost: false,
@@ -125,16 +109,14 @@ impl<'p, W: Write, V: Write> Report<'p, W, V> {
 
     /// Returns what the report came to, and the writers. Unless a write failed, they got the text of what was said.
     pub fn end(self) -> (Summary, W, V)
-        ensures right { result.0.is_right ≡ all_right self.entry.said }
-        ensures written { AreAppended (AreLines self.entry.format self.entry.path self.entry.named) self.entry.is_lost
-            result.0.is_told (record { out = self.entry.start; err = self.entry.told_start })
-            (record { out = W.contents result.1; err = V.contents result.2 }) self.entry.said }
+        ensures right { result.0.is_right ≡ list_all is_right_line self.said }
+        ensures written { AreAppended (AreTextsOfLine self.format) self.is_lost result.0.is_told
+            (record { out = self.start; err = self.told_start })
+            (record { out = W.contents result.1; err = V.contents result.2 }) self.said }
     {
         let Report {
             alloc: _,
-            path: _,
             format: _,
-            labels: _,
             out,
             err,
             is_lost: _,
@@ -145,16 +127,20 @@ impl<'p, W: Write, V: Write> Report<'p, W, V> {
         } = self;
         (Summary { is_right, is_told }, out, err)
     }
+}
 
-    /// Says a record. The only error is that of the writer.
-    pub fn state(&mut self, kind: Kind, members: &[Member<'_>]) -> Result<(), Stop>
-        ensures { OnOk result (self.new ≡ saying self.old (states kind (members_said members.now) ∷ [])) }
-    {
-        self.log = self.log.then(&Note::States(kind, members));
+impl<W: Write, V: Write> Run for Report<W, V> {
+    ghost use Rattle.nugwier_report.specs.Said.{also_said};
+
+    ghost one = { also_said };
+
+    fn state(&mut self, page: &Page<'_>, kind: Kind, members: &[Member<'_>]) -> Result<(), Stop> {
+        self.log = self.log.then(&Note::States(page, kind, members));
+        let class = page.labels.class;
         if let Err(error) = write_record(
-            self.path,
+            page.path,
             self.format,
-            self.labels.class,
+            class,
             kind,
             members,
             &mut self.out,
@@ -165,18 +151,15 @@ impl<'p, W: Write, V: Write> Report<'p, W, V> {
         Ok(())
     }
 
-    /// Says what is wrong at a place, after what was said before. The only errors are that of the writer, and that there
-    /// is no memory for the text; an error of the writer for problems is ignored.
-    pub fn problem(&mut self, place: Place, fault: Fault<'_>) -> Result<(), Stop>
-        ensures { OnOk result (self.new ≡ saying self.old (wrong place fault.entry ∷ [])) }
-    {
-        let section = self.labels.of(place.part);
+    // An error of the writer for problems is no reason to stop.
+    fn problem(&mut self, page: &Page<'_>, place: Place, fault: Fault<'_>) -> Result<(), Stop> {
+        let section = page.labels.of(place.part);
         let text = problem_text(self.alloc, place, section, &fault)?;
-        self.log = self.log.then(&Note::Wrong(place, &fault));
+        self.log = self.log.then(&Note::Wrong(&*page, place, &fault));
         self.is_right = false;
         let member = place_member(section, place.part);
         if let Err(error) = write_problem(
-            self.path,
+            page.path,
             self.format,
             member,
             text.as_str(),
@@ -186,27 +169,9 @@ impl<'p, W: Write, V: Write> Report<'p, W, V> {
             self.is_told = false;
             return Err(Stop::Write(error));
         }
-        let told = tell(self.path, text.as_str(), &mut self.err);
+        let told = write_line(page.path, text.as_str(), &mut self.err);
         self.is_told &= told.is_ok();
         Ok(())
-    }
-
-    /// Returns what was read, or says that it cannot be read. The only errors are those of `problem`.
-    pub fn readable<T: Drop>(
-        &mut self,
-        place: Place,
-        read: Result<T, ParseError>,
-    ) -> Result<Option<T>, Stop>
-        ensures value { IfOk result (λ value. value ≡ result_ok read) }
-        ensures place { OnOk result (self.new ≡ saying self.old (unread place read)) }
-    {
-        match read {
-            Ok(value) => Ok(Some(value)),
-            Err(error) => {
-                self.problem(place, Fault::Read(error))?;
-                Ok(None)
-            }
-        }
     }
 }
 
@@ -306,8 +271,8 @@ fn write_problem<W: Write>(
     out.flush()
 }
 
-// Tells of a problem, a line with the path of the file.
-fn tell<V: Write>(path: &str, told: &str, err: &mut V) -> io::Result<()>
+// Writes the line of a problem, with the path of the file.
+fn write_line<V: Write>(path: &str, told: &str, err: &mut V) -> io::Result<()>
     ensures { OnOk result (Appends (V.contents err.old) (V.contents err.new) (problem_line path.now told.now)) }
 {
     let path = Escaped(path.as_bytes());

@@ -1,2 +1,3 @@
 pub mod CheckedContent
 mod NoteEnds
+pub mod Told

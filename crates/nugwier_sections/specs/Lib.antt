@@ -3,8 +3,6 @@ pub mod Identity
 pub mod Plan
 pub mod Sections
 pub mod Segments
--- what was taken, as the definitions have it
-pub mod inner
 -- the build attributes
 pub mod Attributes
 -- the links to files with debug information

@@ -1,4 +1,6 @@
 //! Whether a file is sound, and its faults. It is read whole.
+#![tactic(auto, using(nugwier_report::proofs::Saying::saying_both))]
+
 ghost use Rattle.std.specs.Prelude.{◌≡◌, ◌<◌, ◌^◌, List, Result, IfOk, IfSome, OnOk, false, length};
 ghost use Rattle.elf.specs.ElfBytes.{view};
 ghost use Rattle.elf.specs.Loaded.{streamed_file};
@@ -9,36 +11,41 @@ ghost use Rattle.elf_reading.specs.Opening.{opened_file};
 ghost use Rattle.elf_check.specs.AllFaults.{AreAllFaults};
 ghost use Rattle.elf_check.specs.declared.faults.FileFault.{FileFault};
 ghost use Rattle.nugwier_sections.specs.Check.{AreContentFaults, AreFaultsOf, AreFoundSaid, AreOpenedFaults};
+ghost use Rattle.nugwier_sections.specs.Check.{IsCheckSaid};
 ghost use Rattle.nugwier_taking.specs.Whole.{stream_range, file_of};
-ghost use Rattle.nugwier_report.specs.Said.{Said, saying};
+ghost use Rattle.nugwier_report.specs.Said.{IsToldAs, Said, saying};
 
 use elf::endian::EndianParse;
 use elf::{ElfBytes, ElfStream, ParseError, StreamSource};
 use elf_check::all_faults_in;
 use elf_check::faults::FileFault;
-use nugwier_records::verdicts::say_verdict;
+use nugwier_records::verdicts::tell_verdict;
 use nugwier_report::problem::{Fault, Part, Stop};
-use nugwier_report::report::Report;
+use nugwier_report::tell::Tell;
 use nugwier_taking::listed::ListedFile;
 use nugwier_taking::taking;
-use nugwier_taking::taking::NotTaken;
 use std::alloc::{AllocError, Global};
-use std::io::Write;
 
-/// All faults of a file, or why it cannot be read whole.
-pub type Checked = Result<Vec<FileFault>, ParseError>;
+// All faults of a file, or why it cannot be read whole.
+type Checked = Result<Vec<FileFault>, ParseError>;
 
-/// Takes all faults of a file.
-pub fn take_check<E: EndianParse, R: ListedFile<E>>(
+/// Tells that the file of this path is sound, or its faults.
+pub fn tell_check<E: EndianParse, R: ListedFile<E>, T: Tell>(
     alloc: Global,
+    path: &str,
     file: &R,
-) -> Result<Checked, NotTaken>
-    ensures { IfOk result (λ checked. AreFaultsOf E.little E.of_byte (file_of (R.file file.now) (R.bytes file.now))
-        (ok_map (λ faults. faults.items) checked)) }
+    tell: &mut T,
+) -> Result<(), Stop>
+    ensures { OnOk result (IsToldAs T.silent T.one
+        (IsCheckSaid E.little E.of_byte path.now (file_of (R.file file.now) (R.bytes file.now))) tell.old tell.new) }
 {
-    match taking::whole_bytes(file)? {
-        Ok(bytes) => Ok(checked::<E>(alloc, bytes)?),
-        Err(error) => Ok(Err(error)),
+    let bytes = taking::whole_bytes(file)?;
+    if tell.is_silent() {
+        return Ok(());
+    }
+    match bytes {
+        Ok(bytes) => tell_checked(alloc, path, checked::<E>(alloc, bytes)?, tell),
+        Err(error) => tell.problem(Part::File.whole(), Fault::Read(error)),
     }
 }
 
@@ -96,18 +103,18 @@ fn empty_places<T: Copy>(alloc: Global, count: usize) -> Vec<Option<T>> {
     }
 }
 
-/// Says that the file of this path is sound, or its faults.
-pub fn say_check<W: Write, V: Write>(
+// Tells that the file of this path is sound, or its faults, or that it cannot be read.
+fn tell_checked<T: Tell>(
     alloc: Global,
     path: &str,
     checked: Checked,
-    report: &mut Report<'_, W, V>,
+    tell: &mut T,
 ) -> Result<(), Stop>
     ensures { OnOk result ((said : List Said) × AreFoundSaid path.now (ok_map (λ faults. faults.items) checked) said
-        × (report.new ≡ saying report.old said)) }
+        × (tell.new ≡ saying T.one tell.old said)) }
 {
     match checked {
-        Ok(faults) => say_verdict(alloc, path, faults.as_slice(), report),
-        Err(error) => report.problem(Part::File.whole(), Fault::Read(error)),
+        Ok(faults) => tell_verdict(alloc, path, faults.as_slice(), tell),
+        Err(error) => tell.problem(Part::File.whole(), Fault::Read(error)),
     }
 }

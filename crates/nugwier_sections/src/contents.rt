@@ -1,14 +1,14 @@
 //! The content of sections.
-ghost use Rattle.std.specs.Prelude.{◌≡◌, ◌++◌, IfOk, OnOk, map};
-ghost use Rattle.std.specs.List.{flat_map};
+#![tactic(auto, using(nugwier_report::proofs::Saying::saying_both))]
+
+ghost use Rattle.std.specs.Prelude.{◌≡◌, IfOk, OnOk, map};
+ghost use Rattle.elf.specs.Data.{content};
 ghost use Rattle.elf_reading.specs.Leading.{data_view};
 ghost use Rattle.elf_records.specs.Number.{ok_map};
-ghost use Rattle.nugwier_sections.specs.Contents.{bytes_said, content_said, form_said, heading_of, none_said};
-ghost use Rattle.nugwier_sections.specs.Contents.{said_of_contents, sections_said, wanted_said, within};
+ghost use Rattle.nugwier_sections.specs.Contents.{bytes_said, content_said, heading_of, none_said, said_of_contents};
+ghost use Rattle.nugwier_sections.specs.Contents.{section_said, sections_said, wanted_said, within};
 ghost use Rattle.nugwier_taking.specs.TypedSections.{left_after};
-ghost use Rattle.elf.specs.Data.{content};
 ghost use Rattle.nugwier_taking.specs.Whole.{file_of};
-ghost use Rattle.nugwier_sections.specs.inner.Contents.{part_said, section_part_said};
 ghost use Rattle.nugwier_records.specs.Contents.{compression_said};
 ghost use Rattle.nugwier_report.specs.Said.{said_if, saying};
 ghost use Rattle.nugwier_words.specs.Words.{wanted_view};
@@ -20,153 +20,98 @@ use elf::reader::Reader;
 use elf::section::SectionHeader;
 use elf::string_table::TerminatedStrings;
 use elf::{ParseError, abi};
-use nugwier_records::contents::{say_compression, say_data, say_strings};
+use nugwier_records::contents::{tell_compression, tell_data, tell_strings};
 use nugwier_report::names::label_name;
 use nugwier_report::problem::{Fault, Part, Stop};
 use nugwier_report::quoted::Quoted;
-use nugwier_report::report::Report;
+use nugwier_report::tell::Tell;
 use nugwier_taking::headings::{heading_members, known_names};
 use nugwier_taking::listed::ListedFile;
 use nugwier_taking::named::sections_of;
-use nugwier_taking::parts::TakenPart;
 use nugwier_taking::taking;
-use nugwier_taking::taking::NotTaken;
 use nugwier_words::words::{Form, Wanted};
 use nugwier_writing::kind::Kind;
 use std::alloc::Global;
-use std::io::Write;
 
 // The bytes of a section, and its compression header if it has one.
 type Content<'f> = (&'f [u8], Option<CompressionHeader>);
 
-/// A section that is wanted, with its number, its name and its content, or a word that names none.
-#[derive(Drop)]
-pub enum ContentPart<'w, 'f> {
-    Section(SectionContent<'f>),
-    Missing(&'w str),
-}
-
-/// A section that is wanted, and what it holds.
-#[derive(Drop)]
-pub struct SectionContent<'f> {
-    form: Form,
-    number: u64,
-    name: &'f [u8],
-    section: SectionHeader,
-    content: Result<Content<'f>, Fault<'static>>,
-}
-
-impl TakenPart for ContentPart<'_, '_> {
-    ghost said = { part_said };
-
-    fn say<W: Write, V: Write>(self, report: &mut Report<'_, W, V>) -> Result<(), Stop> {
-        match self {
-            ContentPart::Section(part) => say_section(part, report),
-            ContentPart::Missing(word) => {
-                let word = Quoted::new(word.as_bytes());
-                report.problem(Part::File.whole(), Fault::NoSection(word))
-            }
-        }
-    }
-}
-
-/// Takes the content of sections, in order. Of no section, nothing is read.
-pub fn take_contents<'w, 'f, E: EndianParse, R: ListedFile<E>>(
+/// Tells the content of sections, in order. Of no section, nothing is read.
+pub fn tell_contents<E: EndianParse, R: ListedFile<E>, T: Tell>(
     alloc: Global,
-    file: &'f R,
-    contents: &[Wanted<'w>],
-) -> Result<Vec<ContentPart<'w, 'f>>, NotTaken>
-    ensures { IfOk result (λ parts. flat_map part_said parts.items
-        ≡ said_of_contents (file_of (R.file file.now) (R.bytes file.now)) (map wanted_view contents.now)) }
+    file: &R,
+    contents: &[Wanted<'_>],
+    tell: &mut T,
+) -> Result<(), Stop>
+    ensures { OnOk result (tell.new ≡ saying T.one tell.old
+        (said_of_contents (file_of (R.file file.now) (R.bytes file.now)) (map wanted_view contents.now))) }
 {
-    let mut parts = Vec::new(alloc);
     if contents.is_empty() {
-        return Ok(parts);
+        return Ok(());
     }
     let names = known_names(file)?;
     for wanted in contents {
-        add_content(alloc, file, &names, *wanted, &mut parts)?;
-    }
-    Ok(parts)
-}
-
-// Takes the content of the sections that a word names, and adds it.
-fn add_content<'w, 'f, E: EndianParse, R: ListedFile<E>>(
-    alloc: Global,
-    file: &'f R,
-    names: &Option<TerminatedStrings<'f>>,
-    wanted: Wanted<'w>,
-    parts: &mut Vec<ContentPart<'w, 'f>>,
-) -> Result<(), NotTaken>
-    ensures { OnOk result (flat_map part_said parts.new.items ≡ flat_map part_said parts.old.items
-        ++ content_said (file_of (R.file file.now) (R.bytes file.now)) names.now (wanted_view wanted.entry)) }
-{
-    let sections = sections_of(alloc, file, names, wanted.section)?;
-    if sections.is_empty() {
-        parts.push(ContentPart::Missing(wanted.section))?;
-        return Ok(());
-    }
-    add_sections(file, names, wanted.form, sections.as_slice(), parts)
-}
-
-// Takes the content of these sections, and adds it.
-fn add_sections<'f, E: EndianParse, R: ListedFile<E>>(
-    file: &'f R,
-    names: &Option<TerminatedStrings<'f>>,
-    form: Form,
-    sections: &[(usize, SectionHeader)],
-    parts: &mut Vec<ContentPart<'_, 'f>>,
-) -> Result<(), NotTaken>
-    ensures { let whole = file_of (R.file file.now) (R.bytes file.now) in
-        OnOk result (flat_map part_said parts.new.items
-        ≡ flat_map part_said parts.old.items ++ sections_said whole names.now form whole.size sections.now) }
-{
-    let mut left = file.size();
-    for section in sections {
-        left = add_section(file, names, form, left, section, parts)?;
+        tell_wanted(alloc, file, &names, *wanted, tell)?;
     }
     Ok(())
 }
 
-// Takes the content of a section, and adds it. Returns how many bytes may follow.
-fn add_section<'f, E: EndianParse, R: ListedFile<E>>(
-    file: &'f R,
-    names: &Option<TerminatedStrings<'f>>,
+// Tells the content of the sections that a word names, or that there are none.
+fn tell_wanted<E: EndianParse, R: ListedFile<E>, T: Tell>(
+    alloc: Global,
+    file: &R,
+    names: &Option<TerminatedStrings<'_>>,
+    wanted: Wanted<'_>,
+    tell: &mut T,
+) -> Result<(), Stop>
+    ensures { OnOk result (tell.new ≡ saying T.one tell.old
+        (content_said (file_of (R.file file.now) (R.bytes file.now)) names.now (wanted_view wanted.entry))) }
+{
+    let sections = sections_of(alloc, file, names, wanted.section)?;
+    if sections.is_empty() {
+        let word = Quoted::new(wanted.section.as_bytes());
+        return tell.problem(Part::File.whole(), Fault::NoSection(word));
+    }
+    tell_sections(file, names, wanted.form, sections.as_slice(), tell)
+}
+
+fn tell_sections<E: EndianParse, R: ListedFile<E>, T: Tell>(
+    file: &R,
+    names: &Option<TerminatedStrings<'_>>,
+    form: Form,
+    sections: &[(usize, SectionHeader)],
+    tell: &mut T,
+) -> Result<(), Stop>
+    ensures { let whole = file_of (R.file file.now) (R.bytes file.now) in OnOk result (tell.new
+        ≡ saying T.one tell.old (sections_said whole names.now form whole.size sections.now)) }
+{
+    let mut left = file.size();
+    for section in sections {
+        left = tell_section(file, names, form, left, section, tell)?;
+    }
+    Ok(())
+}
+
+// Tells the content of a section. Returns how many bytes may follow.
+fn tell_section<E: EndianParse, R: ListedFile<E>, T: Tell>(
+    file: &R,
+    names: &Option<TerminatedStrings<'_>>,
     form: Form,
     left: u64,
     section: &(usize, SectionHeader),
-    parts: &mut Vec<ContentPart<'_, 'f>>,
-) -> Result<u64, NotTaken>
+    tell: &mut T,
+) -> Result<u64, Stop>
     ensures after { let whole = file_of (R.file file.now) (R.bytes file.now) in
         IfOk result (λ after. after ≡ left_after left (content whole section.now.1)) }
-    ensures taken { OnOk result (flat_map part_said parts.new.items ≡ flat_map part_said parts.old.items
-        ++ wanted_said (file_of (R.file file.now) (R.bytes file.now)) names.now form left section.now) }
+    ensures told { OnOk result (tell.new ≡ saying T.one tell.old
+        (wanted_said (file_of (R.file file.now) (R.bytes file.now)) names.now form left section.now)) }
 {
     let (number, section) = *section;
     let content = taking::section_data(file, &section)?;
     let after = left_after(left, &content);
-    parts.push(ContentPart::Section(SectionContent {
-        form,
-        number: number as u64,
-        name: label_name(names, &section),
-        section,
-        content: within(left, content),
-    }))?;
+    let name = label_name(names, &section);
+    tell_found(form, number as u64, name, &section, left, content, tell)?;
     Ok(after)
-}
-
-// What was found, if no more than this number of bytes are left to list.
-fn within<'f>(
-    left: u64,
-    content: Result<Content<'f>, ParseError>,
-) -> Result<Content<'f>, Fault<'static>>
-    ensures { ok_map data_view result ≡ within left (ok_map data_view content.entry) }
-{
-    match content {
-        Ok((bytes, _)) if left < bytes.len() as u64 => Err(Fault::Repeated),
-        Ok(content) => Ok(content),
-        Err(error) => Err(Fault::Read(error)),
-    }
 }
 
 // How many bytes may be listed after them.
@@ -179,24 +124,29 @@ fn left_after(left: u64, content: &Result<Content<'_>, ParseError>) -> u64
     }
 }
 
-// Says the content of a section, or why it is not listed.
-fn say_section<W: Write, V: Write>(
-    part: SectionContent<'_>,
-    report: &mut Report<'_, W, V>,
+// Tells the content of a section of this number and name, if no more than this number of bytes are left to list, or why
+// it is not listed.
+fn tell_found<T: Tell>(
+    form: Form,
+    number: u64,
+    name: &[u8],
+    section: &SectionHeader,
+    left: u64,
+    content: Result<Content<'_>, ParseError>,
+    tell: &mut T,
 ) -> Result<(), Stop>
-    ensures { OnOk result (report.new ≡ saying report.old (section_part_said part.entry)) }
+    ensures { OnOk result (tell.new ≡ saying T.one tell.old
+        (section_said form number name.now section.now (within left (ok_map data_view content.entry)))) }
 {
-    let SectionContent {
-        form,
-        number,
-        name,
-        section,
-        content,
-    } = part;
-    report.state(heading_of(form), &heading_members(number, name))?;
+    if tell.is_silent() {
+        return Ok(());
+    }
+    tell.state(heading_of(form), &heading_members(number, name))?;
+    let place = Part::Section(number).whole();
     match content {
-        Ok(content) => say_content(form, number, &section, content, report),
-        Err(fault) => report.problem(Part::Section(number).whole(), fault),
+        Ok((bytes, _)) if left < bytes.len() as u64 => tell.problem(place, Fault::Repeated),
+        Ok(content) => tell_content(form, number, section, content, tell),
+        Err(error) => tell.problem(place, Fault::Read(error)),
     }
 }
 
@@ -209,62 +159,46 @@ fn heading_of(form: Form) -> Kind
     }
 }
 
-// Says how the bytes of a section are compressed, if they are, and the bytes after the header.
-fn say_content<W: Write, V: Write>(
+// Tells how the bytes of a section are compressed, if they are, and the bytes after the header, or their strings.
+fn tell_content<T: Tell>(
     form: Form,
     number: u64,
     section: &SectionHeader,
     content: Content<'_>,
-    report: &mut Report<'_, W, V>,
+    tell: &mut T,
 ) -> Result<(), Stop>
-    ensures { OnOk result (report.new
-        ≡ saying report.old (bytes_said form number section.now (data_view content.entry))) }
+    ensures { OnOk result (tell.new
+        ≡ saying T.one tell.old (bytes_said form number section.now (data_view content.entry))) }
 {
     let (bytes, header) = content;
-    say_header(number, &header, report)?;
-    say_none(section, bytes, report)?;
-    say_form(form, number, section, bytes, report)
+    tell_header(number, &header, tell)?;
+    tell_none(section, bytes, tell)?;
+    match form {
+        Form::Bytes => tell_data(number, section.sh_addr, bytes, tell),
+        Form::Strings => tell_strings(number, bytes, tell),
+    }
 }
 
-fn say_header<W: Write, V: Write>(
+fn tell_header<T: Tell>(
     number: u64,
     header: &Option<CompressionHeader>,
-    report: &mut Report<'_, W, V>,
+    tell: &mut T,
 ) -> Result<(), Stop>
-    ensures { OnOk result (report.new ≡ saying report.old (said_if (compression_said number) header.now)) }
+    ensures { OnOk result (tell.new ≡ saying T.one tell.old (said_if (compression_said number) header.now)) }
 {
     match header {
-        Some(header) => say_compression(number, header, report),
+        Some(header) => tell_compression(number, header, tell),
         None => Ok(()),
     }
 }
 
-// Says that a section has no bytes in the file, or is empty.
-fn say_none<W: Write, V: Write>(
-    section: &SectionHeader,
-    bytes: &[u8],
-    report: &mut Report<'_, W, V>,
-) -> Result<(), Stop>
-    ensures { OnOk result (report.new ≡ saying report.old (none_said section.now bytes.now)) }
+// Tells that a section has no bytes in the file, or is empty.
+fn tell_none<T: Tell>(section: &SectionHeader, bytes: &[u8], tell: &mut T) -> Result<(), Stop>
+    ensures { OnOk result (tell.new ≡ saying T.one tell.old (none_said section.now bytes.now)) }
 {
     match bytes {
-        [] if section.sh_type == abi::SHT_NOBITS => report.state(Kind::NoBytes, &[]),
-        [] => report.state(Kind::EmptySection, &[]),
+        [] if section.sh_type == abi::SHT_NOBITS => tell.state(Kind::NoBytes, &[]),
+        [] => tell.state(Kind::EmptySection, &[]),
         _ => Ok(()),
-    }
-}
-
-fn say_form<W: Write, V: Write>(
-    form: Form,
-    number: u64,
-    section: &SectionHeader,
-    bytes: &[u8],
-    report: &mut Report<'_, W, V>,
-) -> Result<(), Stop>
-    ensures { OnOk result (report.new ≡ saying report.old (form_said form number section.now bytes.now)) }
-{
-    match form {
-        Form::Bytes => say_data(number, section.sh_addr, bytes, report),
-        Form::Strings => say_strings(number, bytes, report),
     }
 }

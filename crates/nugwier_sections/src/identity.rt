@@ -1,27 +1,29 @@
 //! The build id.
+#![tactic(auto, using(nugwier_report::proofs::Saying::saying_both))]
+
 ghost use Rattle.std.specs.Prelude.{◌≡◌, OnOk};
-ghost use Rattle.std.specs.Option.{option_map};
-ghost use Rattle.elf_records.specs.Number.{ok_map};
-ghost use Rattle.nugwier_sections.specs.Identity.{identity_said};
+ghost use Rattle.nugwier_sections.specs.Identity.{said_of_identity};
+ghost use Rattle.nugwier_taking.specs.Whole.{file_of};
 ghost use Rattle.nugwier_report.specs.Said.{saying};
 
-use elf::ParseError;
-use nugwier_records::build_id::say_build_id;
+use elf::endian::EndianParse;
+use nugwier_records::build_id::tell_build_id;
 use nugwier_report::problem::{Fault, Part, Stop};
-use nugwier_report::report::Report;
-use std::io::Write;
+use nugwier_report::tell::Tell;
+use nugwier_taking::listed::ListedFile;
+use nugwier_taking::taking;
 
-/// Says the build id that was taken. It is a problem if there is none.
-pub fn say_identity<W: Write, V: Write>(
-    found: Result<Option<&[u8]>, ParseError>,
-    report: &mut Report<'_, W, V>,
+/// Tells the build id. It is a problem if there is none.
+pub fn tell_identity<E: EndianParse, R: ListedFile<E>, T: Tell>(
+    file: &R,
+    tell: &mut T,
 ) -> Result<(), Stop>
-    ensures { OnOk result (report.new ≡ saying report.old (identity_said
-        (ok_map (option_map (λ id. id.now)) found.entry))) }
+    ensures { OnOk result (tell.new
+        ≡ saying T.one tell.old (said_of_identity (file_of (R.file file.now) (R.bytes file.now)))) }
 {
-    match found {
-        Ok(Some(id)) => say_build_id(id, report),
-        Ok(None) => report.problem(Part::BuildId.whole(), Fault::Missing),
-        Err(error) => report.problem(Part::BuildId.whole(), Fault::Read(error)),
+    match taking::build_id(file)? {
+        Ok(Some(id)) => tell_build_id(id, tell),
+        Ok(None) => tell.problem(Part::BuildId.whole(), Fault::Missing),
+        Err(error) => tell.problem(Part::BuildId.whole(), Fault::Read(error)),
     }
 }

@@ -1,4 +1,4 @@
--- what was taken, as the definitions have it
+-- what the structs are, as the definitions have it
 pub mod inner
 -- the symbols
 pub mod Symbols

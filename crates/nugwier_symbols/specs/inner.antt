@@ -1,6 +1,2 @@
--- the symbols that were taken
-pub mod Symbols
--- the relocations that were taken
+-- the relocations of a place, and what they are told by
 pub mod Relocations
--- the section groups that were taken
-pub mod Groups

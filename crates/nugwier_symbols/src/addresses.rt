@@ -1,73 +1,69 @@
 //! The symbols at addresses.
-ghost use Rattle.std.specs.Prelude.{◌≡◌, List, IfOk, OnOk, map};
+#![tactic(auto, using(nugwier_report::proofs::Saying::saying_both))]
+
+ghost use Rattle.std.specs.Prelude.{◌≡◌, IfOk, OnOk, map};
 ghost use Rattle.std.specs.Option.{option_map};
 ghost use Rattle.elf.specs.Answers.{symbols_view};
 ghost use Rattle.elf_records.specs.Number.{ok_map};
-ghost use Rattle.nugwier_symbols.specs.Addresses.{AreEachSaid, AreSaidBy, all_symbols, among_named, among_of, placed};
+ghost use Rattle.nugwier_symbols.specs.Addresses.{AreAddressesSaid, AreEachSaid, AreSaidBy, all_symbols};
+ghost use Rattle.nugwier_symbols.specs.Addresses.{among_of, placed};
 ghost use Rattle.nugwier_taking.specs.Whole.{file_of};
-ghost use Rattle.nugwier_report.specs.Said.{Said, saying};
+ghost use Rattle.nugwier_report.specs.Said.{IsToldAs};
 ghost use Rattle.nugwier_words.specs.Words.{sought, task_of, text_of};
 
 use elf::abi;
 use elf::endian::EndianParse;
-use elf::section::SectionHeader;
 use elf::string_table::TerminatedStrings;
 use elf_tools::addresses::Addresses;
 use nugwier_records::addresses::{AddressRow, Among, PlacedAddress};
 use nugwier_report::problem::{Fault, Part, Stop};
 use nugwier_report::quoted::Quoted;
-use nugwier_report::report::Report;
-use nugwier_report::rows::say_slice;
+use nugwier_report::rows::tell_slice;
+use nugwier_report::tell::Tell;
 use nugwier_taking::headings::known_names;
 use nugwier_taking::linked::linked_symbols;
 use nugwier_taking::listed::ListedFile;
 use nugwier_taking::named::section_of;
 use nugwier_taking::taking;
-use nugwier_taking::taking::{FoundSymbols, NotTaken, Symbols};
+use nugwier_taking::taking::{FoundSymbols, Symbols};
 use nugwier_words::words::{AskedAddress, Job};
 use std::alloc::Global;
-use std::io::Write;
 
-/// The symbols of a file, and the addresses for which they are looked through.
-#[derive(Drop)]
-pub struct AddressTables<'f, 'w, E: EndianParse> {
-    machine: u16,
-    addresses: Vec<PlacedAddress<'w>>,
-    symbols: FoundSymbols<'f, E>,
-}
-
-/// Takes the symbols, and finds the sections that the addresses are in.
-pub fn take_addresses<'f, 'w, E: EndianParse, R: ListedFile<E>>(
+/// Tells the symbol that starts at each address or before it. It is wrong if there are no symbols, if none starts there
+/// or before, if its name cannot be read, or if its section is not given or not found.
+pub fn tell_addresses<E: EndianParse, R: ListedFile<E>, T: Tell>(
     alloc: Global,
-    job: &'w Job<'w>,
-    file: &'f R,
-) -> Result<AddressTables<'f, 'w, E>, NotTaken>
-    ensures machine { IfOk result (λ t. t.machine ≡ (R.header file.now).e_machine) }
-    ensures addresses { let whole = file_of (R.file file.now) (R.bytes file.now) in
-        IfOk result (λ t. t.addresses.items ≡ map (placed (R.header file.now).e_type whole) (task_of job.now).addresses) }
-    ensures symbols { IfOk result (λ t. ok_map (option_map symbols_view) t.symbols
-        ≡ all_symbols (file_of (R.file file.now) (R.bytes file.now))) }
+    job: &Job<'_>,
+    file: &R,
+    tell: &mut T,
+) -> Result<(), Stop>
+    ensures { let header = R.header file.now in OnOk result (IsToldAs T.silent T.one
+        (AreAddressesSaid header.e_type header.e_machine (task_of job.now).addresses
+        (file_of (R.file file.now) (R.bytes file.now))) tell.old tell.new) }
 {
-    let addresses = place_addresses(alloc, file, job.addresses.as_slice())?;
-    let symbols = take_all_symbols(file)?;
-    Ok(AddressTables {
-        machine: file.file_header().e_machine,
-        addresses,
+    let addresses = placed(alloc, file, job.addresses.as_slice())?;
+    let symbols = all_symbols(file)?;
+    tell_symbols(
+        alloc,
+        file.file_header().e_machine,
         symbols,
-    })
+        addresses.as_slice(),
+        tell,
+    )
 }
 
-fn place_addresses<'w, E: EndianParse, R: ListedFile<E>>(
+// The addresses, each with the symbols among which its own is looked for.
+fn placed<'w, E: EndianParse, R: ListedFile<E>>(
     alloc: Global,
     file: &R,
     asked: &[AskedAddress<'w>],
-) -> Result<Vec<PlacedAddress<'w>>, NotTaken>
-    ensures { let whole = file_of (R.file file.now) (R.bytes file.now) in
-        IfOk result (λ addresses. addresses.items ≡ map (placed (R.header file.now).e_type whole) (map sought asked.now)) }
+) -> Result<Vec<PlacedAddress<'w>>, Stop>
+    ensures { let whole = file_of (R.file file.now) (R.bytes file.now) in IfOk result (λ addresses.
+        addresses.items ≡ map (placed (R.header file.now).e_type whole) (map sought asked.now)) }
 {
     let mut addresses = Vec::new(alloc);
     for one in asked {
-        let among = take_among(file, one.section)?;
+        let among = among_of(file, one.section)?;
         addresses.push(PlacedAddress {
             address: one.address,
             among,
@@ -76,38 +72,31 @@ fn place_addresses<'w, E: EndianParse, R: ListedFile<E>>(
     Ok(addresses)
 }
 
-// Without a section no names are read.
-fn take_among<'w, E: EndianParse, R: ListedFile<E>>(
+// The symbols of the section that a word names, if it names one. Without a word no names are read.
+fn among_of<'w, E: EndianParse, R: ListedFile<E>>(
     file: &R,
     section: Option<&'w str>,
-) -> Result<Among<'w>, NotTaken>
+) -> Result<Among<'w>, Stop>
     ensures { IfOk result (λ among. among ≡ among_of (R.header file.now).e_type
         (file_of (R.file file.now) (R.bytes file.now)) (text_of section.entry)) }
 {
     match section {
         Some(word) => {
             let names = known_names(file)?;
-            Ok(among_named(word, section_of(file, &names, word)))
+            match section_of(file, &names, word) {
+                Some((number, _)) => Ok(Among::Section(number as u64)),
+                None => Ok(Among::NoSection(Quoted::new(word.as_bytes()))),
+            }
         }
         None if file.file_header().e_type == abi::ET_REL => Ok(Among::Unknown),
         None => Ok(Among::File),
     }
 }
 
-// The symbols of the section that a word names, if it names one.
-fn among_named<'w>(word: &'w str, section: Option<(usize, SectionHeader)>) -> Among<'w>
-    ensures { result ≡ among_named word.now section }
-{
-    match section {
-        Some((number, _)) => Among::Section(number as u64),
-        None => Among::NoSection(Quoted::new(word.as_bytes())),
-    }
-}
-
-// Takes the symbols of the section of type `SHT_SYMTAB`, or if there is none those for dynamic linking.
-fn take_all_symbols<'f, E: EndianParse, R: ListedFile<E>>(
+// The symbols of the section of type `SHT_SYMTAB`, or if there is none those for dynamic linking.
+fn all_symbols<'f, E: EndianParse, R: ListedFile<E>>(
     file: &'f R,
-) -> Result<FoundSymbols<'f, E>, NotTaken>
+) -> Result<FoundSymbols<'f, E>, Stop>
     ensures { IfOk result (λ found. ok_map (option_map symbols_view) found
         ≡ all_symbols (file_of (R.file file.now) (R.bytes file.now))) }
 {
@@ -118,39 +107,40 @@ fn take_all_symbols<'f, E: EndianParse, R: ListedFile<E>>(
     }
 }
 
-/// Says the symbol that starts at each address or before it. It is wrong if there are no symbols, if none starts there
-/// or before, if its name cannot be read, or if its section is not given or not found.
-pub fn say_addresses<E: EndianParse, W: Write, V: Write>(
+// Tells the symbol of each address, or that there are no symbols.
+#[tactic(auto, using(crate::proofs::Told::told_wrong))]
+fn tell_symbols<E: EndianParse, T: Tell>(
     alloc: Global,
-    tables: AddressTables<'_, '_, E>,
-    report: &mut Report<'_, W, V>,
+    machine: u16,
+    symbols: FoundSymbols<'_, E>,
+    addresses: &[PlacedAddress<'_>],
+    tell: &mut T,
 ) -> Result<(), Stop>
-    ensures { let t = tables.entry in OnOk result ((said : List Said)
-        × AreSaidBy t.machine t.addresses.items (ok_map (option_map symbols_view) t.symbols) said
-        × (report.new ≡ saying report.old said)) }
+    ensures { OnOk result (IsToldAs T.silent T.one
+        (AreSaidBy machine addresses.now (ok_map (option_map symbols_view) symbols.entry)) tell.old tell.new) }
 {
-    let AddressTables {
-        machine,
-        addresses,
-        symbols,
-    } = tables;
     match symbols {
-        Ok(Some(symbols)) => say_each(alloc, machine, symbols, addresses.as_slice(), report),
-        Ok(None) => report.problem(Part::Symbols.whole(), Fault::Missing),
-        Err(fault) => report.problem(Part::Symbols.whole(), fault),
+        Ok(Some(symbols)) => tell_each(alloc, machine, symbols, addresses, tell),
+        Ok(None) => tell.problem(Part::Symbols.whole(), Fault::Missing),
+        Err(fault) => tell.problem(Part::Symbols.whole(), fault),
     }
 }
 
-fn say_each<E: EndianParse, W: Write, V: Write>(
+// Tells the symbol of each address. One of whom nothing comes needs no order of the symbols.
+#[tactic(auto, using(crate::proofs::Told::told_as))]
+fn tell_each<E: EndianParse, T: Tell>(
     alloc: Global,
     machine: u16,
     symbols: Symbols<'_, E>,
     addresses: &[PlacedAddress<'_>],
-    report: &mut Report<'_, W, V>,
+    tell: &mut T,
 ) -> Result<(), Stop>
-    ensures { OnOk result ((said : List Said) × AreEachSaid machine addresses.now (symbols_view symbols.entry) said
-        × (report.new ≡ saying report.old said)) }
+    ensures { OnOk result (IsToldAs T.silent T.one (AreEachSaid machine addresses.now (symbols_view symbols.entry))
+        tell.old tell.new) }
 {
+    if tell.is_silent() {
+        return Ok(());
+    }
     let (table, strings) = symbols;
     let by_address = Addresses::new(alloc, machine, &table)?;
     let row = AddressRow {
@@ -158,5 +148,5 @@ fn say_each<E: EndianParse, W: Write, V: Write>(
         strings: TerminatedStrings::new(&strings),
         by_address,
     };
-    say_slice(addresses, &row, report)
+    tell_slice(addresses, &row, tell)
 }

@@ -1,98 +1,76 @@
 //! The symbols of a file.
-ghost use Rattle.std.specs.Prelude.{◌≡◌, IfOk, OnOk, length};
+#![tactic(auto, using(nugwier_report::proofs::Saying::saying_both))]
+
+ghost use Rattle.std.specs.Prelude.{◌≡◌, ℕ, true, List, Ok, Some, IfOk, OnOk};
 ghost use Rattle.std.specs.Option.{option_map};
 ghost use Rattle.elf.specs.Answers.{symbols_view};
 ghost use Rattle.elf_parts.specs.gnu_symver.Table.{versions_view};
 ghost use Rattle.elf_records.specs.Number.{ok_map};
-ghost use Rattle.elf_records.specs.StringTable.{strings_view};
 ghost use Rattle.elf_records.specs.Table.{table_view};
+ghost use Rattle.elf_records.specs.declared.symbol.Symbol.{Symbol as SymbolView};
 ghost use Rattle.nugwier_taking.specs.Read.{fault_said, if_read};
-ghost use Rattle.nugwier_symbols.specs.Symbols.{AreAllSaid, AreLinkedSaid, AreSymbolsSaid, AreTableSaid, IsByKey, IsOrdered};
-ghost use Rattle.nugwier_symbols.specs.Symbols.{heading_said, none_said, order_key, rows_of, rows_said, said_of_dynamic_symbols};
-ghost use Rattle.nugwier_symbols.specs.Symbols.{said_of_symbols};
+ghost use Rattle.nugwier_symbols.specs.Symbols.{AreAllSaid, AreExportsSaid, AreLinkedSaid, AreSymbolsSaid};
+ghost use Rattle.nugwier_symbols.specs.Symbols.{AreTableSaid, IsByKey, IsOrdered, heading_said, none_said, order_key};
+ghost use Rattle.nugwier_symbols.specs.Symbols.{rows_of, rows_said, said_of_dynamic_symbols, said_of_symbols};
 ghost use Rattle.nugwier_taking.specs.Whole.{file_of};
-ghost use Rattle.nugwier_symbols.specs.inner.Symbols.{one_table_said, rows_view, table_said};
-ghost use Rattle.nugwier_report.specs.Said.{saying, whole};
-ghost use Rattle.nugwier_records.specs.Symbols.{form_view};
+ghost use Rattle.nugwier_report.specs.Said.{IsToldAs, Said, saying, whole};
+ghost use Rattle.nugwier_records.specs.Symbols.{form_view, order_of};
 ghost use Rattle.nugwier_report.specs.declared.problem.Part.TheVariants.{Versions as VersionPart};
 
 use elf::endian::EndianParse;
 use elf::gnu_symver::{SymbolVersionTable, SymbolVersions};
 use elf::laws::tables::iter_gives_len_records;
-use elf::string_table::{StringTable, TerminatedStrings};
+use elf::string_table::TerminatedStrings;
 use elf::symbol::{Symbol, SymbolTable};
 use elf_linking::indexed;
 use nugwier_records::symbols::{Form, Names, SymbolRow};
 use nugwier_report::problem::{Fault, Part, Stop};
-use nugwier_report::report::Report;
-use nugwier_report::rows::{Renumbered, say_records, say_slice};
+use nugwier_report::rows::{Renumbered, tell_records, tell_slice};
 use nugwier_report::symbol_options::{SymbolOptions, SymbolOrder};
+use nugwier_report::tell::Tell;
 use nugwier_taking::headings::count_members;
 use nugwier_taking::linked::{FoundVersions, linked_symbols, linked_versions};
 use nugwier_taking::listed::ListedFile;
 use nugwier_taking::taking;
-use nugwier_taking::taking::{FoundSymbols, NotTaken};
+use nugwier_taking::taking::{FoundSymbols, Symbols};
 use nugwier_writing::kind::Kind;
 use std::alloc::{AllocError, Global};
-use std::io::Write;
 use std::marker::PhantomData;
 
-// The symbols of a table: in its order, or in another one, each with its number.
-#[derive(Drop)]
-enum Rows<'f, E: EndianParse> {
-    InTable(SymbolTable<'f, E>),
-    Ordered(Vec<(usize, Symbol)>),
-}
-
-/// Symbols that were taken, their strings, and their versions.
-#[derive(Drop)]
-pub struct VersionedSymbols<'f, E: EndianParse> {
-    rows: Rows<'f, E>,
-    strings: StringTable<'f>,
-    versions: FoundVersions<'f, E>,
-}
-
-/// The symbols of a part that were taken, if there are any, and what is said of them.
-#[derive(Drop)]
-pub struct SymbolTables<'f, E: EndianParse> {
-    part: Part,
-    form: Form<'f>,
-    found: Result<Option<VersionedSymbols<'f, E>>, Fault<'static>>,
-}
-
-/// Takes the symbols of the section of type `SHT_SYMTAB`, to say all their fields.
-#[tactic(auto, using(crate::proofs::Ordered::in_table_order))]
-pub fn take_symbols<'f, E: EndianParse, R: ListedFile<E>>(
+/// Tells the symbols of the section of type `SHT_SYMTAB`, with all their fields.
+pub fn tell_symbols<E: EndianParse, R: ListedFile<E>, T: Tell>(
     alloc: Global,
-    file: &'f R,
-) -> Result<SymbolTables<'f, E>, NotTaken>
-    ensures { IfOk result (λ tables. table_said tables
-        ≡ said_of_symbols (file_of (R.file file.now) (R.bytes file.now))) }
+    file: &R,
+    tell: &mut T,
+) -> Result<(), Stop>
+    ensures { OnOk result (tell.new ≡ saying T.one tell.old
+        (said_of_symbols (file_of (R.file file.now) (R.bytes file.now)))) }
 {
     let found = taking::symbols(file)?;
-    take_table(alloc, Part::Symbols, Form::Fields, found, Ok(None))
+    tell_table(alloc, Part::Symbols, Form::Fields, found, Ok(None), tell)
 }
 
-/// Takes the symbols for dynamic linking, to say all their fields.
-#[tactic(auto, using(crate::proofs::Ordered::in_table_order))]
-pub fn take_dynamic_symbols<'f, E: EndianParse, R: ListedFile<E>>(
+/// Tells the symbols for dynamic linking, with all their fields.
+pub fn tell_dynamic_symbols<E: EndianParse, R: ListedFile<E>, T: Tell>(
     alloc: Global,
-    file: &'f R,
-) -> Result<SymbolTables<'f, E>, NotTaken>
-    ensures { IfOk result (λ tables. table_said tables
-        ≡ said_of_dynamic_symbols (file_of (R.file file.now) (R.bytes file.now))) }
+    file: &R,
+    tell: &mut T,
+) -> Result<(), Stop>
+    ensures { OnOk result (tell.new ≡ saying T.one tell.old
+        (said_of_dynamic_symbols (file_of (R.file file.now) (R.bytes file.now)))) }
 {
-    take_linked(alloc, Form::Fields, file)
+    tell_linked(alloc, Form::Fields, file, tell)
 }
 
-/// Takes the symbols that the options ask for, to say their values and letters.
-pub fn take_letters<'f, E: EndianParse, R: ListedFile<E>>(
+/// Tells the symbols that the options ask for, with their values and letters.
+pub fn tell_letters<E: EndianParse, R: ListedFile<E>, T: Tell>(
     alloc: Global,
     options: SymbolOptions,
-    file: &'f R,
-) -> Result<SymbolTables<'f, E>, NotTaken>
-    ensures { IfOk result (λ tables. AreSymbolsSaid options (file_of (R.file file.now) (R.bytes file.now))
-        (table_said tables)) }
+    file: &R,
+    tell: &mut T,
+) -> Result<(), Stop>
+    ensures { OnOk result (IsToldAs T.silent T.one
+        (AreSymbolsSaid options (file_of (R.file file.now) (R.bytes file.now))) tell.old tell.new) }
 {
     let form = Form::Letter {
         sections: file.section_list(),
@@ -100,79 +78,173 @@ pub fn take_letters<'f, E: EndianParse, R: ListedFile<E>>(
         options,
     };
     if options.is_dynamic {
-        return take_linked(alloc, form, file);
+        return tell_linked(alloc, form, file, tell);
     }
     let found = taking::symbols(file)?;
-    take_found(alloc, form, found, file)
+    tell_found(alloc, form, found, file, tell)
 }
 
-// Takes the symbols that were found of the section of type `SHT_SYMTAB`, or if there is none those for dynamic linking.
-fn take_found<'f, E: EndianParse, R: ListedFile<E>>(
+/// Tells what the file defines for others, or if the options ask for that only the functions.
+pub fn tell_exports<E: EndianParse, R: ListedFile<E>, T: Tell>(
+    alloc: Global,
+    options: SymbolOptions,
+    file: &R,
+    tell: &mut T,
+) -> Result<(), Stop>
+    ensures { OnOk result (IsToldAs T.silent T.one
+        (AreExportsSaid options (file_of (R.file file.now) (R.bytes file.now))) tell.old tell.new) }
+{
+    let functions_only = options.functions_only;
+    tell_linked(alloc, Form::Export { functions_only }, file, tell)
+}
+
+// Tells the symbols that were found, or if there are none those for dynamic linking.
+fn tell_found<'f, E: EndianParse, R: ListedFile<E>, T: Tell>(
     alloc: Global,
     form: Form<'f>,
     found: FoundSymbols<'f, E>,
     file: &'f R,
-) -> Result<SymbolTables<'f, E>, NotTaken>
-    ensures { IfOk result (λ tables. AreAllSaid (form_view form.entry) (file_of (R.file file.now) (R.bytes file.now))
-        (ok_map (option_map symbols_view) found.entry) (table_said tables)) }
+    tell: &mut T,
+) -> Result<(), Stop>
+    ensures { OnOk result (IsToldAs T.silent T.one (AreAllSaid (form_view form.entry)
+        (file_of (R.file file.now) (R.bytes file.now)) (ok_map (option_map symbols_view) found.entry))
+        tell.old tell.new) }
 {
     match found {
-        Ok(None) => take_linked(alloc, form, file),
-        found => take_table(alloc, Part::Symbols, form, found, Ok(None)),
+        Ok(None) => tell_linked(alloc, form, file, tell),
+        found => tell_table(alloc, Part::Symbols, form, found, Ok(None), tell),
     }
 }
 
-/// Takes the symbols for dynamic linking, with their versions.
-pub fn take_linked<'f, E: EndianParse, R: ListedFile<E>>(
+// Tells the symbols for dynamic linking, with their versions. One of whom nothing comes is as after anything.
+fn tell_linked<'f, E: EndianParse, R: ListedFile<E>, T: Tell>(
     alloc: Global,
     form: Form<'f>,
     file: &'f R,
-) -> Result<SymbolTables<'f, E>, NotTaken>
-    ensures { IfOk result (λ tables. AreLinkedSaid (form_view form.entry)
-        (file_of (R.file file.now) (R.bytes file.now)) (table_said tables)) }
+    tell: &mut T,
+) -> Result<(), Stop>
+    ensures told { OnOk result (IsToldAs T.silent T.one (AreLinkedSaid (form_view form.entry)
+        (file_of (R.file file.now) (R.bytes file.now))) tell.old tell.new) }
+    ensures silent { OnOk result (T.silent tell.old ≡ true → (said : List Said)
+        → tell.new ≡ saying T.one tell.old said) }
 {
     let found = linked_symbols(file)?;
     let versions = linked_versions(file)?;
-    take_table(alloc, Part::DynamicSymbols, form, found, versions)
+    tell_table(alloc, Part::DynamicSymbols, form, found, versions, tell)
 }
 
-// Puts the symbols of a part that were found into the order of the form.
-fn take_table<'f, E: EndianParse>(
+// Tells the symbols of a part that were found. One of whom nothing comes is as after anything.
+#[tactic(auto, using(crate::proofs::Told::told_as, crate::proofs::Told::told_only, crate::proofs::Told::told_wrong, crate::proofs::Told::not_silent))]
+fn tell_table<'f, E: EndianParse, T: Tell>(
     alloc: Global,
     part: Part,
     form: Form<'f>,
     found: FoundSymbols<'f, E>,
     versions: FoundVersions<'f, E>,
-) -> Result<SymbolTables<'f, E>, NotTaken>
-    ensures { IfOk result (λ tables. AreTableSaid (form_view form.entry) part
-        (ok_map (option_map versions_view) versions.entry) (ok_map (option_map symbols_view) found.entry)
-        (table_said tables)) }
+    tell: &mut T,
+) -> Result<(), Stop>
+    ensures told { OnOk result (IsToldAs T.silent T.one (AreTableSaid (form_view form.entry) part
+        (ok_map (option_map versions_view) versions.entry) (ok_map (option_map symbols_view) found.entry))
+        tell.old tell.new) }
+    ensures silent { OnOk result (T.silent tell.old ≡ true → (said : List Said)
+        → tell.new ≡ saying T.one tell.old said) }
 {
-    let found = match found {
-        Ok(Some((table, strings))) => {
-            let rows = in_order(alloc, form.order(), table)?;
-            Ok(Some(VersionedSymbols {
-                rows,
-                strings,
-                versions,
-            }))
-        }
-        Ok(None) => Ok(None),
-        Err(fault) => Err(fault),
-    };
-    Ok(SymbolTables { part, form, found })
+    if tell.is_silent() {
+        return Ok(());
+    }
+    match found {
+        Ok(Some(symbols)) => tell_versioned(alloc, part, form, symbols, versions, tell),
+        Ok(None) => tell_none(part, form, tell),
+        Err(fault) => tell.problem(part.whole(), fault),
+    }
 }
 
-fn in_order<'f, E: EndianParse>(
-    alloc: Global,
-    order: SymbolOrder,
-    table: SymbolTable<'f, E>,
-) -> Result<Rows<'f, E>, AllocError>
-    ensures { IfOk result (λ rows. IsOrdered order (rows_of (table_view table.entry)) (rows_view rows)) }
+// It is wrong if there are no symbols, unless all fields are told.
+fn tell_none<T: Tell>(part: Part, form: Form<'_>, tell: &mut T) -> Result<(), Stop>
+    ensures { OnOk result (tell.new ≡ saying T.one tell.old (none_said (form_view form.entry) part)) }
 {
+    match form {
+        Form::Fields => Ok(()),
+        Form::Letter { .. } | Form::Export { .. } => tell.problem(part.whole(), Fault::Missing),
+    }
+}
+
+// Tells symbols by their versions, if these can be read.
+fn tell_versioned<'f, E: EndianParse, T: Tell>(
+    alloc: Global,
+    part: Part,
+    form: Form<'f>,
+    symbols: Symbols<'f, E>,
+    versions: FoundVersions<'f, E>,
+    tell: &mut T,
+) -> Result<(), Stop>
+    ensures { OnOk result ((said : List Said) × AreTableSaid (form_view form.entry) part
+        (ok_map (option_map versions_view) versions.entry) (Ok (Some (symbols_view symbols.entry))) said
+        × (tell.new ≡ saying T.one tell.old said)) }
+{
+    let (table, strings) = symbols;
+    let versions = known_versions(versions, tell)?;
+    iter_gives_len_records(&table);
+    tell_heading(part, form, table.len(), tell)?;
+    let versions = indexed(alloc, versions.as_ref())?;
+    let names = Names {
+        part,
+        strings: TerminatedStrings::new(&strings),
+        versions,
+        order: PhantomData,
+    };
+    tell_rows(alloc, &table, &SymbolRow { names, form }, tell)
+}
+
+/// Returns the versions if they can be read, or tells that they cannot.
+pub fn known_versions<'f, E: EndianParse, T: Tell>(
+    versions: FoundVersions<'f, E>,
+    tell: &mut T,
+) -> Result<Option<SymbolVersionTable<'f, E>>, Stop>
+    ensures versions { IfOk result (λ known. option_map versions_view known
+        ≡ if_read (ok_map (option_map versions_view) versions.entry)) }
+    ensures wrong { OnOk result (tell.new ≡ saying T.one tell.old
+        (fault_said (whole VersionPart) (ok_map (option_map versions_view) versions.entry))) }
+{
+    match versions {
+        Ok(versions) => Ok(versions),
+        Err(fault) => {
+            tell.problem(Part::Versions.whole(), fault)?;
+            Ok(None)
+        }
+    }
+}
+
+// Tells the heading above all fields of symbols.
+fn tell_heading<T: Tell>(part: Part, form: Form<'_>, count: usize, tell: &mut T) -> Result<(), Stop>
+    ensures { OnOk result (tell.new ≡ saying T.one tell.old (heading_said (form_view form.entry) part count)) }
+{
+    match (form, part) {
+        (Form::Fields, Part::Symbols) => { tell.state(Kind::SymbolsHeading, &count_members(count)) }
+        (Form::Fields, _) => tell.state(Kind::DynamicSymbolsHeading, &count_members(count)),
+        (Form::Letter { .. } | Form::Export { .. }, _) => Ok(()),
+    }
+}
+
+// Tells each symbol of a table, in the order of the form.
+fn tell_rows<'f, E: EndianParse, V: SymbolVersions<E> + Drop, T: Tell>(
+    alloc: Global,
+    table: &SymbolTable<'f, E>,
+    row: &SymbolRow<'f, E, V>,
+    tell: &mut T,
+) -> Result<(), Stop>
+    ensures { let manner = form_view row.now.form in OnOk result ((rows : List (ℕ × SymbolView))
+        × IsOrdered (order_of manner) (rows_of (table_view table.now)) rows
+        × (tell.new ≡ saying T.one tell.old (rows_said manner row.now.names.part
+        (option_map V.versions row.now.names.versions) rows row.now.names.strings))) }
+{
+    let order = row.form.order();
     match order {
-        SymbolOrder::Table => Ok(Rows::InTable(table)),
-        SymbolOrder::Value | SymbolOrder::Size => Ok(Rows::Ordered(ordered(alloc, order, &table)?)),
+        SymbolOrder::Table => tell_records(table.iter(), row, tell),
+        SymbolOrder::Value | SymbolOrder::Size => {
+            let rows = ordered(alloc, order, table)?;
+            tell_slice(rows.as_slice(), &Renumbered(row), tell)
+        }
     }
 }
 
@@ -206,129 +278,5 @@ fn order_key(order: SymbolOrder, symbol: &Symbol) -> u128
         SymbolOrder::Value if symbol.is_undefined() => 0,
         SymbolOrder::Value => symbol.st_value as u128 + 1,
         SymbolOrder::Size => symbol.st_size as u128,
-    }
-}
-
-/// Says the symbols that were taken. It is wrong if there are none, unless all fields are said.
-pub fn say_table<E: EndianParse, W: Write, V: Write>(
-    alloc: Global,
-    tables: SymbolTables<'_, E>,
-    report: &mut Report<'_, W, V>,
-) -> Result<(), Stop>
-    ensures { OnOk result (report.new ≡ saying report.old (table_said tables.entry)) }
-{
-    let SymbolTables { part, form, found } = tables;
-    match found {
-        Ok(Some(symbols)) => say_versioned(alloc, part, form, symbols, report),
-        Ok(None) => say_none(part, form, report),
-        Err(fault) => report.problem(part.whole(), fault),
-    }
-}
-
-fn say_none<W: Write, V: Write>(
-    part: Part,
-    form: Form<'_>,
-    report: &mut Report<'_, W, V>,
-) -> Result<(), Stop>
-    ensures { OnOk result (report.new ≡ saying report.old (none_said (form_view form.entry) part)) }
-{
-    match form {
-        Form::Fields => Ok(()),
-        Form::Letter { .. } | Form::Export { .. } => report.problem(part.whole(), Fault::Missing),
-    }
-}
-
-fn say_versioned<'f, E: EndianParse, W: Write, V: Write>(
-    alloc: Global,
-    part: Part,
-    form: Form<'f>,
-    symbols: VersionedSymbols<'f, E>,
-    report: &mut Report<'_, W, V>,
-) -> Result<(), Stop>
-    ensures { OnOk result (report.new ≡ saying report.old
-        (one_table_said (form_view form.entry) part symbols.entry)) }
-{
-    let VersionedSymbols {
-        rows,
-        strings,
-        versions,
-    } = symbols;
-    let versions = known_versions(versions, report)?;
-    say_heading(part, form, count_of(&rows), report)?;
-    let versions = indexed(alloc, versions.as_ref())?;
-    say_rows(part, form, rows, strings, versions, report)
-}
-
-// The versions, if they can be read.
-pub fn known_versions<'f, E: EndianParse, W: Write, V: Write>(
-    versions: FoundVersions<'f, E>,
-    report: &mut Report<'_, W, V>,
-) -> Result<Option<SymbolVersionTable<'f, E>>, Stop>
-    ensures versions { IfOk result (λ known. option_map versions_view known
-        ≡ if_read (ok_map (option_map versions_view) versions.entry)) }
-    ensures wrong { OnOk result (report.new ≡ saying report.old
-        (fault_said (whole VersionPart) (ok_map (option_map versions_view) versions.entry))) }
-{
-    match versions {
-        Ok(versions) => Ok(versions),
-        Err(fault) => {
-            report.problem(Part::Versions.whole(), fault)?;
-            Ok(None)
-        }
-    }
-}
-
-// The number of rows.
-fn count_of<E: EndianParse>(rows: &Rows<'_, E>) -> usize
-    ensures { result ≡ length (rows_view rows.now) }
-{
-    match rows {
-        Rows::InTable(table) => {
-            iter_gives_len_records(table);
-            table.len()
-        }
-        Rows::Ordered(rows) => rows.len(),
-    }
-}
-
-// The heading above all fields of symbols.
-fn say_heading<W: Write, V: Write>(
-    part: Part,
-    form: Form<'_>,
-    count: usize,
-    report: &mut Report<'_, W, V>,
-) -> Result<(), Stop>
-    ensures { OnOk result (report.new ≡ saying report.old (heading_said (form_view form.entry) part count)) }
-{
-    match (form, part) {
-        (Form::Fields, Part::Symbols) => {
-            report.state(Kind::SymbolsHeading, &count_members(count))
-        }
-        (Form::Fields, _) => report.state(Kind::DynamicSymbolsHeading, &count_members(count)),
-        (Form::Letter { .. } | Form::Export { .. }, _) => Ok(()),
-    }
-}
-
-fn say_rows<'f, E: EndianParse, T: SymbolVersions<E> + Drop, W: Write, V: Write>(
-    part: Part,
-    form: Form<'f>,
-    rows: Rows<'f, E>,
-    strings: StringTable<'f>,
-    versions: Option<T>,
-    report: &mut Report<'_, W, V>,
-) -> Result<(), Stop>
-    ensures { OnOk result (report.new ≡ saying report.old (rows_said (form_view form.entry) part
-        (option_map T.versions versions) (rows_view rows.entry) (strings_view strings.entry))) }
-{
-    let names = Names {
-        part,
-        strings: TerminatedStrings::new(&strings),
-        versions,
-        order: PhantomData,
-    };
-    let row = SymbolRow { names, form };
-    match rows {
-        Rows::InTable(table) => say_records(table.iter(), &row, report),
-        Rows::Ordered(rows) => say_slice(rows.as_slice(), &Renumbered(&row), report),
     }
 }

@@ -7,15 +7,15 @@ ghost use Rattle.nugwier_writing.specs.Members.{content_of, members_said};
 
 use crate::listed::ListedFile;
 use crate::taking;
-use crate::taking::NotTaken;
 use elf::endian::EndianParse;
 use elf::string_table::TerminatedStrings;
+use nugwier_report::problem::Stop;
 use nugwier_writing::json::{Member, Value};
 
-/// Takes the names of the sections, if they can be read.
+/// Returns the names of the sections, if they can be read.
 pub fn known_names<'f, E: EndianParse, R: ListedFile<E>>(
     file: &'f R,
-) -> Result<Option<TerminatedStrings<'f>>, NotTaken>
+) -> Result<Option<TerminatedStrings<'f>>, Stop>
     ensures { IfOk result (λ names. names ≡ known_names (file_of (R.file file.now) (R.bytes file.now))) }
 {
     match taking::names(file)? {

@@ -7,6 +7,5 @@ pub mod in_memory;
 pub mod linked;
 pub mod listed;
 pub mod named;
-pub mod parts;
 pub mod taking;
 pub mod typed_sections;

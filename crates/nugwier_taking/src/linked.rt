@@ -22,7 +22,7 @@ ghost use Rattle.nugwier_taking.specs.inner.Linked.{missing_of};
 
 use crate::listed::ListedFile;
 use crate::taking;
-use crate::taking::{FoundSymbols, NotTaken, Symbols};
+use crate::taking::{FoundSymbols, Symbols};
 use elf::dynamic::DynamicTable;
 use elf::endian::EndianParse;
 use elf::gnu_symver::{EntriesWithStrings, SymbolVersionTable, VerDef, VerNeed};
@@ -32,7 +32,7 @@ use elf_dynamic::dynamic_view;
 use elf_dynamic::dynamic_view::laws::part_view_as_whole;
 use elf_dynamic::dynamic_view::{DynamicError, PltRelocations};
 use elf_dynamic::linked::LinkedBy;
-use nugwier_report::problem::Fault;
+use nugwier_report::problem::{Fault, Stop};
 
 /// The versions of the symbols for dynamic linking, if there are any.
 pub type FoundVersions<'f, E> = Result<Option<SymbolVersionTable<'f, E>>, Fault<'static>>;
@@ -40,10 +40,10 @@ pub type FoundVersions<'f, E> = Result<Option<SymbolVersionTable<'f, E>>, Fault<
 // What is found through the segments.
 type View<T> = Result<T, DynamicError>;
 
-/// Takes the symbols for dynamic linking, and their strings.
+/// Returns the symbols for dynamic linking, and their strings.
 pub fn linked_symbols<'f, E: EndianParse, R: ListedFile<E>>(
     file: &'f R,
-) -> Result<FoundSymbols<'f, E>, NotTaken>
+) -> Result<FoundSymbols<'f, E>, Stop>
     ensures { IfOk result (λ found. ok_map (option_map symbols_view) found
         ≡ linked_symbols (file_of (R.file file.now) (R.bytes file.now))) }
 {
@@ -61,10 +61,10 @@ pub fn linked_symbols<'f, E: EndianParse, R: ListedFile<E>>(
     }
 }
 
-/// Takes the versions of the symbols for dynamic linking.
+/// Returns the versions of the symbols for dynamic linking.
 pub fn linked_versions<'f, E: EndianParse, R: ListedFile<E>>(
     file: &'f R,
-) -> Result<FoundVersions<'f, E>, NotTaken>
+) -> Result<FoundVersions<'f, E>, Stop>
     ensures { IfOk result (λ found. ok_map (option_map versions_view) found
         ≡ linked_versions (file_of (R.file file.now) (R.bytes file.now))) }
 {
@@ -94,143 +94,143 @@ fn is_part<E: EndianParse, R: ListedFile<E>>(file: &R)
 }
 
 // What was found, unless bytes are missing.
-fn taken<T>(read: View<T>) -> Result<View<T>, NotTaken>
+fn unless_missing<T>(read: View<T>) -> Result<View<T>, Stop>
     ensures found { IfOk result (λ found. read ≡ found) }
     ensures no_missing { IfOk result (λ found. missing_of found ≡ None) }
 {
     match read {
         Ok(value) => Ok(Ok(value)),
-        Err(DynamicError::Missing(range)) => Err(NotTaken::Missing(range)),
+        Err(DynamicError::Missing(range)) => Err(Stop::Missing(range)),
         Err(error) => Ok(Err(error)),
     }
 }
 
-/// Takes what says where a file has what is linked: its section headers, or if it declares none its dynamic entries.
+/// Returns what says where a file has what is linked: its section headers, or if it declares none its dynamic entries.
 pub fn linked_by<'f, E: EndianParse, R: ListedFile<E>>(
     file: &'f R,
-) -> Result<View<LinkedBy<'f, E>>, NotTaken>
+) -> Result<View<LinkedBy<'f, E>>, Stop>
     ensures { IfOk result (λ found. ok_map place_view found
         ≡ linked_by (file_of (R.file file.now) (R.bytes file.now))) }
 {
     is_part(file);
-    taken(elf_dynamic::linked::linked_by(file))
+    unless_missing(elf_dynamic::linked::linked_by(file))
 }
 
-/// Takes the symbols that dynamic entries give, and their strings.
+/// Returns the symbols that dynamic entries give, and their strings.
 pub fn symbols_by<'f, E: EndianParse, R: ListedFile<E>>(
     file: &'f R,
     table: &DynamicTable<'_, E>,
-) -> Result<View<Symbols<'f, E>>, NotTaken>
+) -> Result<View<Symbols<'f, E>>, Stop>
     ensures { IfOk result (λ found. ok_map symbols_view found
         ≡ symbols_with_strings (file_of (R.file file.now) (R.bytes file.now)) (entries_in (table_view table.now))) }
 {
     is_part(file);
-    taken(dynamic_view::symbols_with_strings(file, table))
+    unless_missing(dynamic_view::symbols_with_strings(file, table))
 }
 
 fn versions<'f, E: EndianParse, R: ListedFile<E>>(
     file: &'f R,
     table: &DynamicTable<'_, E>,
-) -> Result<View<Option<SymbolVersionTable<'f, E>>>, NotTaken>
+) -> Result<View<Option<SymbolVersionTable<'f, E>>>, Stop>
     ensures { IfOk result (λ found. ok_map (option_map versions_view) found
         ≡ versions (file_of (R.file file.now) (R.bytes file.now)) (entries_in (table_view table.now))) }
 {
     is_part(file);
-    taken(dynamic_view::versions(file, table))
+    unless_missing(dynamic_view::versions(file, table))
 }
 
-/// Takes the versions that the file defines, of `DT_VERDEF`, and their strings.
+/// Returns the versions that the file defines, of `DT_VERDEF`, and their strings.
 pub fn version_definitions<'f, E: EndianParse, R: ListedFile<E>>(
     file: &'f R,
     table: &DynamicTable<'_, E>,
-) -> Result<View<Option<EntriesWithStrings<'f, E, VerDef>>>, NotTaken>
+) -> Result<View<Option<EntriesWithStrings<'f, E, VerDef>>>, Stop>
     ensures { IfOk result (λ found. ok_map (option_map definitions_view) found
         ≡ version_definitions (file_of (R.file file.now) (R.bytes file.now)) (entries_in (table_view table.now))) }
 {
     is_part(file);
-    taken(dynamic_view::version_definitions(file, table))
+    unless_missing(dynamic_view::version_definitions(file, table))
 }
 
-/// Takes the files with needed versions, of `DT_VERNEED`, and their strings.
+/// Returns the files with needed versions, of `DT_VERNEED`, and their strings.
 pub fn version_needs<'f, E: EndianParse, R: ListedFile<E>>(
     file: &'f R,
     table: &DynamicTable<'_, E>,
-) -> Result<View<Option<EntriesWithStrings<'f, E, VerNeed>>>, NotTaken>
+) -> Result<View<Option<EntriesWithStrings<'f, E, VerNeed>>>, Stop>
     ensures { IfOk result (λ found. ok_map (option_map needs_view) found
         ≡ version_needs (file_of (R.file file.now) (R.bytes file.now)) (entries_in (table_view table.now))) }
 {
     is_part(file);
-    taken(dynamic_view::version_needs(file, table))
+    unless_missing(dynamic_view::version_needs(file, table))
 }
 
-/// Takes the SysV hash table, of `DT_HASH`.
+/// Returns the SysV hash table, of `DT_HASH`.
 pub fn sysv_hash<'f, E: EndianParse, R: ListedFile<E>>(
     file: &'f R,
     table: &DynamicTable<'_, E>,
-) -> Result<View<Option<SysVHashTable<'f, E>>>, NotTaken>
+) -> Result<View<Option<SysVHashTable<'f, E>>>, Stop>
     ensures { IfOk result (λ found. ok_map (option_map sysv_view) found
         ≡ sysv_hash (file_of (R.file file.now) (R.bytes file.now)) (entries_in (table_view table.now))) }
 {
     is_part(file);
-    taken(dynamic_view::sysv_hash(file, table))
+    unless_missing(dynamic_view::sysv_hash(file, table))
 }
 
-/// Takes the GNU hash table, of `DT_GNU_HASH`.
+/// Returns the GNU hash table, of `DT_GNU_HASH`.
 pub fn gnu_hash<'f, E: EndianParse, R: ListedFile<E>>(
     file: &'f R,
     table: &DynamicTable<'_, E>,
-) -> Result<View<Option<GnuHashTable<'f, E>>>, NotTaken>
+) -> Result<View<Option<GnuHashTable<'f, E>>>, Stop>
     ensures { IfOk result (λ found. ok_map (option_map gnu_view) found
         ≡ gnu_hash (file_of (R.file file.now) (R.bytes file.now)) (entries_in (table_view table.now))) }
 {
     is_part(file);
-    taken(dynamic_view::gnu_hash(file, table))
+    unless_missing(dynamic_view::gnu_hash(file, table))
 }
 
-/// Takes the relocations of `DT_REL`.
+/// Returns the relocations of `DT_REL`.
 pub fn rels<'f, E: EndianParse, R: ListedFile<E>>(
     file: &'f R,
     table: &DynamicTable<'_, E>,
-) -> Result<View<Option<RelIterator<'f, E>>>, NotTaken>
+) -> Result<View<Option<RelIterator<'f, E>>>, Stop>
     ensures { IfOk result (λ found. ok_map (option_map rels_left) found
         ≡ rels (file_of (R.file file.now) (R.bytes file.now)) (entries_in (table_view table.now))) }
 {
     is_part(file);
-    taken(dynamic_view::rels(file, table))
+    unless_missing(dynamic_view::rels(file, table))
 }
 
-/// Takes the relocations of `DT_RELA`.
+/// Returns the relocations of `DT_RELA`.
 pub fn relas<'f, E: EndianParse, R: ListedFile<E>>(
     file: &'f R,
     table: &DynamicTable<'_, E>,
-) -> Result<View<Option<RelaIterator<'f, E>>>, NotTaken>
+) -> Result<View<Option<RelaIterator<'f, E>>>, Stop>
     ensures { IfOk result (λ found. ok_map (option_map relas_left) found
         ≡ relas (file_of (R.file file.now) (R.bytes file.now)) (entries_in (table_view table.now))) }
 {
     is_part(file);
-    taken(dynamic_view::relas(file, table))
+    unless_missing(dynamic_view::relas(file, table))
 }
 
-/// Takes the bytes of the packed relative relocations, of `DT_RELR`.
+/// Returns the bytes of the packed relative relocations, of `DT_RELR`.
 pub fn relr_bytes<'f, E: EndianParse, R: ListedFile<E>>(
     file: &'f R,
     table: &DynamicTable<'_, E>,
-) -> Result<View<Option<&'f [u8]>>, NotTaken>
+) -> Result<View<Option<&'f [u8]>>, Stop>
     ensures { IfOk result (λ found. ok_map (option_map (λ bytes. bytes.now)) found
         ≡ relr_bytes (file_of (R.file file.now) (R.bytes file.now)) (entries_in (table_view table.now))) }
 {
     is_part(file);
-    taken(dynamic_view::relr_bytes(file, table))
+    unless_missing(dynamic_view::relr_bytes(file, table))
 }
 
-/// Takes the relocations of the procedure linkage table, of `DT_JMPREL`.
+/// Returns the relocations of the procedure linkage table, of `DT_JMPREL`.
 pub fn plt_relocations<'f, E: EndianParse, R: ListedFile<E>>(
     file: &'f R,
     table: &DynamicTable<'_, E>,
-) -> Result<View<Option<PltRelocations<'f, E>>>, NotTaken>
+) -> Result<View<Option<PltRelocations<'f, E>>>, Stop>
     ensures { IfOk result (λ found. ok_map (option_map plt_left) found
         ≡ plt_relocations (file_of (R.file file.now) (R.bytes file.now)) (entries_in (table_view table.now))) }
 {
     is_part(file);
-    taken(dynamic_view::plt_relocations(file, table))
+    unless_missing(dynamic_view::plt_relocations(file, table))
 }

@@ -59,7 +59,7 @@ impl<E: EndianParse, S: StreamSource> ListedFile<E> for ElfStream<E, S, Global> 
         self.segments().as_slice()
     }
 
-    #[tactic(auto, using(crate::proofs::Taken::part_of_whole))]
+    #[tactic(auto, using(crate::proofs::Follows::part_of_whole))]
     fn is_part_of_whole(&self) {
         self.is_part_of_file();
     }

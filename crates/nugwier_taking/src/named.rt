@@ -6,10 +6,10 @@ ghost use Rattle.nugwier_taking.specs.Named.{section_of_number, sections_named, 
 ghost use Rattle.nugwier_taking.specs.Whole.{file_of};
 
 use crate::listed::ListedFile;
-use crate::taking::NotTaken;
 use elf::endian::EndianParse;
 use elf::section::SectionHeader;
 use elf::string_table::TerminatedStrings;
+use nugwier_report::problem::Stop;
 use std::alloc::Global;
 
 /// Returns all sections that have the word as their name; or if none has, the one whose number it is.
@@ -18,7 +18,7 @@ pub fn sections_of<E: EndianParse, R: ListedFile<E>>(
     file: &R,
     names: &Option<TerminatedStrings<'_>>,
     word: &str,
-) -> Result<Vec<(usize, SectionHeader)>, NotTaken>
+) -> Result<Vec<(usize, SectionHeader)>, Stop>
     ensures { IfOk result (λ sections. sections.items
         ≡ sections_of (file_of (R.file file.now) (R.bytes file.now)) names.now word.now) }
 {
@@ -62,7 +62,7 @@ fn sections_named(
     sections: &[SectionHeader],
     names: &Option<TerminatedStrings<'_>>,
     name: &str,
-) -> Result<Vec<(usize, SectionHeader)>, NotTaken>
+) -> Result<Vec<(usize, SectionHeader)>, Stop>
     ensures { IfOk result (λ found. found.items ≡ sections_named sections.now name.now names.now) }
 {
     let found = sections

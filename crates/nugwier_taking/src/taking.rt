@@ -1,5 +1,5 @@
-//! What is read of the loaded ranges of a file. What is taken is what its file answers, a value or an error; only
-//! bytes that are not loaded cannot be taken.
+//! What is read of the loaded ranges of a file: what the whole file answers, a value or an error, unless bytes are
+//! missing.
 ghost use Rattle.std.specs.Prelude.{◌≡◌, true, IfOk, IfSome, None};
 ghost use Rattle.std.specs.Option.{option_map};
 ghost use Rattle.elf.specs.Answers.{dynamic, dynamic_symbol_table, relas_left, rels_left, section_data_as_relas};
@@ -24,7 +24,6 @@ ghost use Rattle.elf_linking.specs.Needed.{missing_of, strings_by};
 ghost use Rattle.nugwier_report.specs.declared.problem.Fault.TheVariants.{Read as IsRead};
 ghost use Rattle.nugwier_taking.specs.Headings.{name_bytes};
 ghost use Rattle.nugwier_taking.specs.Whole.{stream_range, file_of};
-ghost use Rattle.nugwier_taking.specs.declared.taking.NotTaken.TheVariants.{Memory as IsMemory};
 
 use crate::listed::ListedFile;
 use elf::compression::CompressionHeader;
@@ -42,33 +41,8 @@ use elf::{ElfStream, ParseError, ReadError, StreamSource, reader};
 use elf_dynamic::relr::{RelrTable, section_data_as_relr};
 use elf_linking::needed::NamesError;
 use elf_tools::laws::part_build_id_as_whole;
-use nugwier_report::problem::Fault;
-use std::alloc::{AllocError, AllocFailed, Global};
-
-/// Why something is not taken of a file.
-#[derive(Debug, Drop)]
-pub enum NotTaken {
-    /// The bytes from a start to an end, which lie in the file, are not loaded.
-    Missing((u64, u64)),
-    /// An allocation failed.
-    Memory,
-}
-
-impl From<AllocError> for NotTaken {
-    ghost from_gives = { λ _ reason. reason ≡ IsMemory };
-
-    fn from(_error: AllocError) -> NotTaken {
-        NotTaken::Memory
-    }
-}
-
-impl<T: Drop> From<AllocFailed<T>> for NotTaken {
-    ghost from_gives = { λ _ reason. reason ≡ IsMemory };
-
-    fn from(_error: AllocFailed<T>) -> NotTaken {
-        NotTaken::Memory
-    }
-}
+use nugwier_report::problem::{Fault, Stop};
+use std::alloc::Global;
 
 /// A table of symbols, with the strings of their names.
 pub type Symbols<'f, E> = (SymbolTable<'f, E>, StringTable<'f>);
@@ -77,7 +51,7 @@ pub type Symbols<'f, E> = (SymbolTable<'f, E>, StringTable<'f>);
 pub type FoundSymbols<'f, E> = Result<Option<Symbols<'f, E>>, Fault<'static>>;
 
 /// States that the file of a stream over known content is the one that the content holds.
-#[tactic(auto, using(crate::proofs::Taken::whole_same))]
+#[tactic(auto, using(crate::proofs::Follows::whole_same))]
 pub fn whole_is_content<E: EndianParse, S: StreamSource>(stream: &ElfStream<E, S, Global>)
     ensures { IfSome stream.now.content (λ bytes. file_of (streamed_file E.little stream.now) (stream_range stream.now)
         ≡ stream_file E.little stream.now bytes) }
@@ -97,20 +71,20 @@ fn is_part<E: EndianParse, R: ListedFile<E>>(file: &R)
 }
 
 // What was read, unless bytes are missing.
-fn taken<T>(read: Result<T, ReadError>) -> Result<Result<T, ParseError>, NotTaken>
+fn unless_missing<T>(read: Result<T, ReadError>) -> Result<Result<T, ParseError>, Stop>
     ensures { IfOk result (λ found. read ≡ err_map IsParse found) }
 {
     match read {
         Ok(value) => Ok(Ok(value)),
         Err(ReadError::Parse(error)) => Ok(Err(error)),
-        Err(ReadError::NotLoaded(range)) => Err(NotTaken::Missing(range)),
+        Err(ReadError::NotLoaded(range)) => Err(Stop::Missing(range)),
     }
 }
 
-/// Takes the symbols of the first section of type `SHT_SYMTAB`, and their strings.
+/// Returns the symbols of the first section of type `SHT_SYMTAB`, and their strings.
 pub fn symbols<'f, E: EndianParse, R: ListedFile<E>>(
     file: &'f R,
-) -> Result<FoundSymbols<'f, E>, NotTaken>
+) -> Result<FoundSymbols<'f, E>, Stop>
     ensures { IfOk result (λ found. ok_map (option_map symbols_view) found
         ≡ err_map IsRead (symbol_table (file_of (R.file file.now) (R.bytes file.now)))) }
 {
@@ -122,40 +96,40 @@ pub fn symbols<'f, E: EndianParse, R: ListedFile<E>>(
 
 fn plain_symbols<'f, E: EndianParse, R: ListedFile<E>>(
     file: &'f R,
-) -> Result<Result<Option<Symbols<'f, E>>, ParseError>, NotTaken>
+) -> Result<Result<Option<Symbols<'f, E>>, ParseError>, Stop>
     ensures { IfOk result (λ found. ok_map (option_map symbols_view) found
         ≡ symbol_table (file_of (R.file file.now) (R.bytes file.now))) }
 {
     is_part(file);
-    taken(reader::symbol_table(file))
+    unless_missing(reader::symbol_table(file))
 }
 
-/// Takes the symbols for dynamic linking of the first section of type `SHT_DYNSYM`, and their strings.
+/// Returns the symbols for dynamic linking of the first section of type `SHT_DYNSYM`, and their strings.
 pub fn dynamic_symbols<'f, E: EndianParse, R: ListedFile<E>>(
     file: &'f R,
-) -> Result<Result<Option<Symbols<'f, E>>, ParseError>, NotTaken>
+) -> Result<Result<Option<Symbols<'f, E>>, ParseError>, Stop>
     ensures { IfOk result (λ found. ok_map (option_map symbols_view) found
         ≡ dynamic_symbol_table (file_of (R.file file.now) (R.bytes file.now))) }
 {
     is_part(file);
-    taken(reader::dynamic_symbol_table(file))
+    unless_missing(reader::dynamic_symbol_table(file))
 }
 
-/// Takes the versions of the symbols for dynamic linking.
+/// Returns the versions of the symbols for dynamic linking.
 pub fn versions<'f, E: EndianParse, R: ListedFile<E>>(
     file: &'f R,
-) -> Result<Result<Option<SymbolVersionTable<'f, E>>, ParseError>, NotTaken>
+) -> Result<Result<Option<SymbolVersionTable<'f, E>>, ParseError>, Stop>
     ensures { IfOk result (λ found. ok_map (option_map versions_view) found
         ≡ symbol_version_table (file_of (R.file file.now) (R.bytes file.now))) }
 {
     is_part(file);
-    taken(reader::symbol_version_table(file))
+    unless_missing(reader::symbol_version_table(file))
 }
 
-/// Takes the names of the sections, if the file has any.
+/// Returns the names of the sections, if the file has any.
 pub fn names<'f, E: EndianParse, R: ListedFile<E>>(
     file: &'f R,
-) -> Result<Result<Option<TerminatedStrings<'f>>, ParseError>, NotTaken>
+) -> Result<Result<Option<TerminatedStrings<'f>>, ParseError>, Stop>
     ensures { IfOk result (λ found. found ≡ name_table (file_of (R.file file.now) (R.bytes file.now))) }
 {
     match name_strings(file)? {
@@ -165,8 +139,8 @@ pub fn names<'f, E: EndianParse, R: ListedFile<E>>(
     }
 }
 
-/// Takes the strings that have the names of the sections, or none if they cannot be read.
-pub fn name_bytes<'f, E: EndianParse, R: ListedFile<E>>(file: &'f R) -> Result<&'f [u8], NotTaken>
+/// Returns the strings that have the names of the sections, or none if they cannot be read.
+pub fn name_bytes<'f, E: EndianParse, R: ListedFile<E>>(file: &'f R) -> Result<&'f [u8], Stop>
     ensures { IfOk result (λ names. names.now ≡ name_bytes (file_of (R.file file.now) (R.bytes file.now))) }
 {
     match name_strings(file)? {
@@ -178,31 +152,31 @@ pub fn name_bytes<'f, E: EndianParse, R: ListedFile<E>>(file: &'f R) -> Result<&
 // The strings of the names of the sections.
 fn name_strings<'f, E: EndianParse, R: ListedFile<E>>(
     file: &'f R,
-) -> Result<Result<Option<StringTable<'f>>, ParseError>, NotTaken>
+) -> Result<Result<Option<StringTable<'f>>, ParseError>, Stop>
     ensures { IfOk result (λ found. ok_map (option_map strings_view) found
         ≡ name_table (file_of (R.file file.now) (R.bytes file.now))) }
 {
     is_part(file);
-    taken(reader::section_names(file))
+    unless_missing(reader::section_names(file))
 }
 
-/// Takes the bytes of a section, and its compression header if it has one.
+/// Returns the bytes of a section, and its compression header if it has one.
 pub fn section_data<'f, E: EndianParse, R: ListedFile<E>>(
     file: &'f R,
     shdr: &SectionHeader,
-) -> Result<Result<(&'f [u8], Option<CompressionHeader>), ParseError>, NotTaken>
+) -> Result<Result<(&'f [u8], Option<CompressionHeader>), ParseError>, Stop>
     ensures { IfOk result (λ found. ok_map data_view found
         ≡ section_data (file_of (R.file file.now) (R.bytes file.now)) shdr.now) }
 {
     is_part(file);
-    taken(reader::section_data(file, shdr))
+    unless_missing(reader::section_data(file, shdr))
 }
 
-/// Takes the bytes of a section, without its compression header.
+/// Returns the bytes of a section, without its compression header.
 pub fn content<'f, E: EndianParse, R: ListedFile<E>>(
     file: &'f R,
     shdr: &SectionHeader,
-) -> Result<Result<&'f [u8], ParseError>, NotTaken>
+) -> Result<Result<&'f [u8], ParseError>, Stop>
     ensures { IfOk result (λ found. ok_map (λ bytes. bytes.now) found
         ≡ content (file_of (R.file file.now) (R.bytes file.now)) shdr.now) }
 {
@@ -212,124 +186,124 @@ pub fn content<'f, E: EndianParse, R: ListedFile<E>>(
     }
 }
 
-/// Takes the relocations of a section of type `SHT_REL`.
+/// Returns the relocations of a section of type `SHT_REL`.
 pub fn rels<'f, E: EndianParse, R: ListedFile<E>>(
     file: &'f R,
     shdr: &SectionHeader,
-) -> Result<Result<RelIterator<'f, E>, ParseError>, NotTaken>
+) -> Result<Result<RelIterator<'f, E>, ParseError>, Stop>
     ensures { IfOk result (λ found. ok_map rels_left found
         ≡ section_data_as_rels (file_of (R.file file.now) (R.bytes file.now)) shdr.now) }
 {
     is_part(file);
-    taken(reader::section_data_as_rels(file, shdr))
+    unless_missing(reader::section_data_as_rels(file, shdr))
 }
 
-/// Takes the relocations of a section of type `SHT_RELA`.
+/// Returns the relocations of a section of type `SHT_RELA`.
 pub fn relas<'f, E: EndianParse, R: ListedFile<E>>(
     file: &'f R,
     shdr: &SectionHeader,
-) -> Result<Result<RelaIterator<'f, E>, ParseError>, NotTaken>
+) -> Result<Result<RelaIterator<'f, E>, ParseError>, Stop>
     ensures { IfOk result (λ found. ok_map relas_left found
         ≡ section_data_as_relas (file_of (R.file file.now) (R.bytes file.now)) shdr.now) }
 {
     is_part(file);
-    taken(reader::section_data_as_relas(file, shdr))
+    unless_missing(reader::section_data_as_relas(file, shdr))
 }
 
-/// Takes the packed relative relocations of a section of type `SHT_RELR`.
+/// Returns the packed relative relocations of a section of type `SHT_RELR`.
 pub fn relr<'f, E: EndianParse, R: ListedFile<E>>(
     file: &'f R,
     shdr: &SectionHeader,
-) -> Result<Result<RelrTable<'f, E>, ParseError>, NotTaken>
+) -> Result<Result<RelrTable<'f, E>, ParseError>, Stop>
     ensures { IfOk result (λ found. ok_map table_view found
         ≡ section_data_as_relr (file_of (R.file file.now) (R.bytes file.now)) shdr.now) }
 {
     is_part(file);
-    taken(section_data_as_relr(file, shdr))
+    unless_missing(section_data_as_relr(file, shdr))
 }
 
-/// Takes the bytes of a segment in the file.
+/// Returns the bytes of a segment in the file.
 pub fn segment_data<'f, E: EndianParse, R: ListedFile<E>>(
     file: &'f R,
     phdr: &ProgramHeader,
-) -> Result<Result<&'f [u8], ParseError>, NotTaken>
+) -> Result<Result<&'f [u8], ParseError>, Stop>
     ensures { IfOk result (λ found. ok_map (λ bytes. bytes.now) found
         ≡ segment_data (file_of (R.file file.now) (R.bytes file.now)) phdr.now) }
 {
     is_part(file);
-    taken(reader::segment_data(file, phdr))
+    unless_missing(reader::segment_data(file, phdr))
 }
 
-/// Takes the dynamic entries.
+/// Returns the dynamic entries.
 pub fn dynamic<'f, E: EndianParse, R: ListedFile<E>>(
     file: &'f R,
-) -> Result<Result<Option<DynamicTable<'f, E>>, ParseError>, NotTaken>
+) -> Result<Result<Option<DynamicTable<'f, E>>, ParseError>, Stop>
     ensures { IfOk result (λ found. ok_map (option_map table_view) found
         ≡ dynamic (file_of (R.file file.now) (R.bytes file.now))) }
 {
     is_part(file);
-    taken(reader::dynamic(file))
+    unless_missing(reader::dynamic(file))
 }
 
-/// Takes the symbols of a section, with the strings of the section that its `sh_link` names.
+/// Returns the symbols of a section, with the strings of the section that its `sh_link` names.
 pub fn symbols_of<'f, E: EndianParse, R: ListedFile<E>>(
     file: &'f R,
     shdr: &SectionHeader,
-) -> Result<Result<Symbols<'f, E>, ParseError>, NotTaken>
+) -> Result<Result<Symbols<'f, E>, ParseError>, Stop>
     ensures { IfOk result (λ found. ok_map symbols_view found
         ≡ symbols_of (file_of (R.file file.now) (R.bytes file.now)) shdr.now) }
 {
     is_part(file);
-    taken(reader::symbols_of(file, shdr))
+    unless_missing(reader::symbols_of(file, shdr))
 }
 
-/// Takes the bytes of a range by its start and its size.
+/// Returns the bytes of a range by its start and its size.
 pub fn range<'f, E: EndianParse, R: ListedFile<E>>(
     file: &'f R,
     start: u64,
     size: u64,
-) -> Result<Result<&'f [u8], ParseError>, NotTaken>
+) -> Result<Result<&'f [u8], ParseError>, Stop>
     ensures { IfOk result (λ found. ok_map (λ bytes. bytes.now) found
         ≡ (file_of (R.file file.now) (R.bytes file.now)).range start size) }
 {
     is_part(file);
-    taken(file.range(start, size))
+    unless_missing(file.range(start, size))
 }
 
-/// Takes all bytes of the file.
+/// Returns all bytes of the file.
 pub fn whole_bytes<'f, E: EndianParse, R: ListedFile<E>>(
     file: &'f R,
-) -> Result<Result<&'f [u8], ParseError>, NotTaken>
+) -> Result<Result<&'f [u8], ParseError>, Stop>
     ensures { let whole = file_of (R.file file.now) (R.bytes file.now) in
         IfOk result (λ found. ok_map (λ bytes. bytes.now) found ≡ whole.range 0 whole.size) }
 {
     range(file, 0, file.size())
 }
 
-/// Takes the build id, if the file has one.
+/// Returns the build id, if the file has one.
 pub fn build_id<'f, E: EndianParse, R: ListedFile<E>>(
     file: &'f R,
-) -> Result<Result<Option<&'f [u8]>, ParseError>, NotTaken>
+) -> Result<Result<Option<&'f [u8]>, ParseError>, Stop>
     ensures { IfOk result (λ found. ok_map (option_map (λ id. id.now)) found
         ≡ build_id (file_of (R.file file.now) (R.bytes file.now))) }
 {
     is_part(file);
     part_build_id_as_whole();
-    taken(elf_tools::build_id::build_id(file))
+    unless_missing(elf_tools::build_id::build_id(file))
 }
 
-/// Takes the string table of dynamic entries. An error is that of the whole file, so never `NamesError::Missing`.
+/// Returns the string table of dynamic entries. An error is that of the whole file, so never `NamesError::Missing`.
 pub fn strings_of<'f, E: EndianParse, R: ListedFile<E>>(
     file: &'f R,
     entries: &[Dyn],
-) -> Result<Result<&'f [u8], NamesError>, NotTaken>
+) -> Result<Result<&'f [u8], NamesError>, Stop>
     ensures strings { IfOk result (λ found. ok_map (λ bytes. bytes.now) found
         ≡ strings_by (file_of (R.file file.now) (R.bytes file.now)) entries.now) }
     ensures no_missing { IfOk result (λ found. missing_of found ≡ None) }
 {
     is_part(file);
     match elf_linking::needed::strings_of(file, entries) {
-        Err(NamesError::Missing(range)) => Err(NotTaken::Missing(range)),
+        Err(NamesError::Missing(range)) => Err(Stop::Missing(range)),
         found => Ok(found),
     }
 }

@@ -7,12 +7,11 @@ ghost use Rattle.nugwier_taking.specs.inner.TypedSections.{section_view};
 
 use crate::listed::ListedFile;
 use crate::taking;
-use crate::taking::NotTaken;
 use elf::endian::EndianParse;
 use elf::section::SectionHeader;
 use elf::{ParseError, abi};
 use elf_dynamic::relr::SHT_RELR;
-use nugwier_report::problem::Fault;
+use nugwier_report::problem::{Fault, Stop};
 use std::alloc::Global;
 
 /// The types of sections that have notes.
@@ -44,12 +43,12 @@ pub struct TypedSection<'f> {
     pub bytes: Result<&'f [u8], Fault<'static>>,
 }
 
-/// Takes the sections of these types. Sections may share their bytes: no more bytes are listed than the file has.
+/// Returns the sections of these types. Sections may share their bytes: no more bytes are listed than the file has.
 pub fn sections_of<'f, E: EndianParse, R: ListedFile<E>>(
     alloc: Global,
     file: &'f R,
     types: &[u32],
-) -> Result<Vec<TypedSection<'f>>, NotTaken>
+) -> Result<Vec<TypedSection<'f>>, Stop>
     ensures { IfOk result (λ sections. map section_view sections.items
         ≡ sections_of (file_of (R.file file.now) (R.bytes file.now)) types.now) }
 {

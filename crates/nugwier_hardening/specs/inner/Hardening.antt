@@ -1,41 +1,16 @@
--- What was taken of a file to say how it is hardened.
-use Rattle.std.specs.Prelude.{ℕ, Bool, List, Option}
-use Rattle.std.specs.Option.{option_map}
-use Rattle.elf.specs.Answers.{symbols_view}
-use Rattle.elf_records.specs.Number.{ok_map}
+-- What is said of how a file is hardened, after what is said of its dynamic entries.
+use Rattle.std.specs.Prelude.{ℕ, List, ◌++◌, Option}
 use Rattle.elf_records.specs.declared.dynamic.Dyn.{Dyn}
-use Rattle.nugwier_hardening.specs.Hardening.{Hardened, HeaderTables, Properties, hardened_said}
-use Rattle.nugwier_hardening.specs.declared.hardening.HardeningTables.{HardeningTables}
-use Rattle.nugwier_hardening.specs.declared.hardening.HeaderLists.{HeaderLists}
-use Rattle.nugwier_hardening.specs.declared.hardening.LinkEntries.{LinkEntries}
-use Rattle.nugwier_hardening.specs.declared.hardening.PropertyBytes.{PropertyBytes}
-use Rattle.nugwier_hardening.specs.inner.Dynamic.{entries_view}
-use Rattle.nugwier_report.specs.Said.{Said}
+use Rattle.nugwier_hardening.specs.Hardening.{Hardened, features_by, hardening_by, judged_said, properties_unread}
+use Rattle.nugwier_notes.specs.Properties.{feature_type}
+use Rattle.nugwier_report.specs.Hardening.{Paths}
+use Rattle.nugwier_report.specs.Said.{Said, whole}
+use Rattle.nugwier_report.specs.declared.hardening.Requirement.{Requirement}
+use Rattle.nugwier_taking.specs.Read.{fault_said, if_read}
 
-abbrev pub property_view : PropertyBytes → Properties
-property_view p = (p.part, p.align, ok_map (λ bytes. bytes.now) p.bytes)
-
-abbrev pub headers_view : HeaderLists → HeaderTables
-headers_view h = record {
-  e_type = h.e_type;
-  machine = h.machine;
-  segments = h.segments.now;
-  sections = h.sections.now;
-}
-
-abbrev pub link_view : LinkEntries → List Dyn × Option (List ℕ)
-link_view link = (link.entries.items, link.strings)
-
-module _ {E : Type 0} (little : E → Bool) where
-  abbrev pub tables_view : HardeningTables E → Hardened
-  tables_view t = record {
-    headers = headers_view t.headers;
-    little = little t.order;
-    class = t.class;
-    entries = ok_map (option_map entries_view) t.entries;
-    symbols = (t.symbols.0, ok_map (option_map symbols_view) t.symbols.1);
-    properties = option_map property_view t.properties;
-  }
-
-  abbrev pub tables_said : List ℕ → HardeningTables E → List Said
-  tables_said path t = hardened_said path t.requirements.now (tables_view t)
+-- of a file with these dynamic entries, if they could be read, and these search paths
+abbrev pub known_said : List ℕ → List Requirement → Hardened → Option (List Dyn) → Paths → List Said
+known_said path requirements f entries paths =
+    let features = features_by f.little f.class (feature_type f.headers.machine) f.properties in
+    fault_said (whole f.symbols.0) f.symbols.1 ++ properties_unread f.properties
+    ++ judged_said path requirements (hardening_by f.headers entries paths (if_read f.symbols.1) features) paths

@@ -25,9 +25,8 @@ use elf_linking::resolve::ObjectFault;
 use nugwier_files::files::Files;
 use nugwier_report::problem::{Fault, Stop};
 use nugwier_report::quoted::Quoted;
-use nugwier_report::report::Report;
+use nugwier_report::tell::Tell;
 use std::alloc::{AllocError, Global};
-use std::io::Write;
 
 /// A file that was opened, with what is loaded of it.
 #[derive(Drop)]
@@ -66,16 +65,15 @@ impl From<ObjectFault> for SearchFault {
 }
 
 /// Opens the file of an object, or says that it cannot be read. A missing library has none.
-#[tactic(auto, using(crate::proofs::Walk::saying_nothing))]
-pub(crate) fn open_file<'a, F: Files, W: Write, V: Write>(
+pub(crate) fn open_file<'a, F: Files, T: Tell>(
     alloc: Global,
     files: &F,
     object: &'a Object,
-    report: &mut Report<'_, W, V>,
+    tell: &mut T,
 ) -> Result<Option<OpenFile<'a>>, Stop>
     ensures { IfOk result (λ file. (opening : Opening) × IsOpening (F.known files.now) (entry_view object.now) opening
         × (option_map open_view file ≡ file_in opening)
-        × (report.new ≡ saying report.old (open_problem opening))) }
+        × (tell.new ≡ saying T.one tell.old (open_problem opening))) }
 {
     let Some(loaded) = &object.file else {
         return Ok(None);
@@ -85,49 +83,49 @@ pub(crate) fn open_file<'a, F: Files, W: Write, V: Write>(
         Some(Ok(file)) => Ok(Some(OpenFile { path, file })),
         Some(Err(error)) => {
             let fault = ObjectFault::Read(error);
-            report.problem(FILE, Fault::Object(Quoted::new(path), fault))?;
+            tell.problem(FILE, Fault::Object(Quoted::new(path), fault))?;
             Ok(None)
         }
         None => {
-            report.problem(FILE, Fault::Unread(Quoted::new(path)))?;
+            tell.problem(FILE, Fault::Unread(Quoted::new(path)))?;
             Ok(None)
         }
     }
 }
 
 // Adds the file of an object, if it can be opened.
-fn add_open<'a, F: Files, W: Write, V: Write>(
+fn add_open<'a, F: Files, T: Tell>(
     alloc: Global,
     files: &F,
     object: &'a Object,
     opened: &mut Vec<OpenFile<'a>>,
-    report: &mut Report<'_, W, V>,
+    tell: &mut T,
 ) -> Result<(), Stop>
     ensures { OnOk result ((opening : Opening) × IsOpening (F.known files.now) (entry_view object.now) opening
         × (map open_view opened.new.items ≡ map open_view opened.old.items ++ files_in opening)
-        × (report.new ≡ saying report.old (open_problem opening))) }
+        × (tell.new ≡ saying T.one tell.old (open_problem opening))) }
 {
-    if let Some(file) = open_file(alloc, files, object, report)? {
+    if let Some(file) = open_file(alloc, files, object, tell)? {
         opened.push(file)?;
     }
     Ok(())
 }
 
 /// Opens the files of these objects, and says which cannot be read.
-pub(crate) fn open_files<'a, F: Files, W: Write, V: Write>(
+pub(crate) fn open_files<'a, F: Files, T: Tell>(
     alloc: Global,
     files: &F,
     objects: &[&'a Object],
-    report: &mut Report<'_, W, V>,
+    tell: &mut T,
 ) -> Result<Vec<OpenFile<'a>>, Stop>
     ensures { IfOk result (λ opened. (openings : List Opening)
         × AreEach (IsOpening (F.known files.now)) (map entry_of objects.now) openings
         × (map open_view opened.items ≡ flat_map files_in openings)
-        × (report.new ≡ saying report.old (flat_map open_problem openings))) }
+        × (tell.new ≡ saying T.one tell.old (flat_map open_problem openings))) }
 {
     let mut opened = Vec::new(alloc);
     for object in objects {
-        add_open(alloc, files, object, &mut opened, report)?;
+        add_open(alloc, files, object, &mut opened, tell)?;
     }
     Ok(opened)
 }
@@ -156,14 +154,13 @@ fn search<'a>(file: &'a OpenFile<'a>) -> Result<Option<WithTable<'a>>, SearchFau
 }
 
 /// Adds a file, or says that it cannot be searched. One without symbols for dynamic linking need not be.
-#[tactic(auto, using(crate::proofs::Walk::saying_nothing))]
-pub(crate) fn add_file<'a, W: Write, V: Write>(
+pub(crate) fn add_file<'a, T: Tell>(
     file: &'a OpenFile<'a>,
     found: &mut Vec<WithTable<'a>>,
-    report: &mut Report<'_, W, V>,
+    tell: &mut T,
 ) -> Result<(), Stop>
     ensures { OnOk result ((searching : Searching) × IsFileSearched (open_view file.now) searching
-        × (report.new ≡ saying report.old (search_problem searching))
+        × (tell.new ≡ saying T.one tell.old (search_problem searching))
         × (map searched_file found.new.items ≡ map searched_file found.old.items ++ files_of searching)) }
 {
     match search(file) {
@@ -173,7 +170,7 @@ pub(crate) fn add_file<'a, W: Write, V: Write>(
         }
         Ok(None) => Ok(()),
         Err(fault) => {
-            report.problem(FILE, problem_of(file.path, fault))?;
+            tell.problem(FILE, problem_of(file.path, fault))?;
             Ok(())
         }
     }
@@ -191,17 +188,17 @@ fn problem_of(path: &[u8], fault: SearchFault) -> Fault<'_>
 }
 
 /// Adds these files, and says which cannot be searched.
-pub(crate) fn add_files<'a, W: Write, V: Write>(
+pub(crate) fn add_files<'a, T: Tell>(
     files: &'a [OpenFile<'a>],
     found: &mut Vec<WithTable<'a>>,
-    report: &mut Report<'_, W, V>,
+    tell: &mut T,
 ) -> Result<(), Stop>
     ensures { OnOk result ((all : List Searching) × AreSearched (map open_view files.now) all
-        × (report.new ≡ saying report.old (flat_map search_problem all))
+        × (tell.new ≡ saying T.one tell.old (flat_map search_problem all))
         × (map searched_file found.new.items ≡ map searched_file found.old.items ++ flat_map files_of all)) }
 {
     for file in files {
-        add_file(file, found, report)?;
+        add_file(file, found, tell)?;
     }
     Ok(())
 }

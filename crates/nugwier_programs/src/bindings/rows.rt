@@ -1,5 +1,5 @@
 //! What is said of what the symbols of a file bind to.
-ghost use Rattle.std.specs.Prelude.{◌≡◌, ◌++◌, IfOk, List, OnOk, map, replicate, slice_get};
+ghost use Rattle.std.specs.Prelude.{◌≡◌, ◌++◌, IfOk, List, OnOk, map, slice_get};
 ghost use Rattle.std.specs.List.{flat_map, zip};
 ghost use Rattle.std.specs.Option.{option_copied, option_map};
 ghost use Rattle.elf_records.specs.Number.{ok_map};
@@ -7,14 +7,10 @@ ghost use Rattle.elf_records.specs.Table.{table_view};
 ghost use Rattle.elf_linking.specs.SymbolBindings.{AreAllBound};
 ghost use Rattle.elf_linking.specs.declared.bindings.kinds.SymbolBinding.{SymbolBinding as IsBinding};
 ghost use Rattle.elf_linking.specs.DynamicFile.{dynamic_uses};
-ghost use Rattle.elf_linking.specs.SymbolUses.{no_uses};
 ghost use Rattle.nugwier_programs.specs.Bindings.{AreSymbolsSaid, AreUses, file_heading, file_uses, looked_up};
 ghost use Rattle.nugwier_programs.specs.Bindings.{uses_problem};
-ghost use Rattle.nugwier_programs.specs.Symbols.{fault_problem, one_problems};
-ghost use Rattle.nugwier_programs.specs.Symbols.{one_said};
-ghost use Rattle.nugwier_programs.specs.Symbols.{outcome_problem, quoted, reference_problem, reference_said};
-ghost use Rattle.nugwier_programs.specs.Symbols.{symbol_problems};
-ghost use Rattle.nugwier_programs.specs.Symbols.{calls_word, symbol_said};
+ghost use Rattle.nugwier_programs.specs.Symbols.{calls_word, one_problems, one_said, outcome_problem, quoted};
+ghost use Rattle.nugwier_programs.specs.Symbols.{reference_problem, reference_said, symbol_problems, symbol_said};
 ghost use Rattle.nugwier_programs.specs.inner.Scope.{file_view, indexed_view, open_at, scope_paths, versions_of};
 ghost use Rattle.nugwier_records.specs.Bindings.{bound_view};
 ghost use Rattle.nugwier_report.specs.Said.{Said, saying};
@@ -27,26 +23,25 @@ use elf_linking::bindings::Bound;
 use elf_linking::bindings::kinds::{SymbolBinding, SymbolFault, bind_symbols, bound_symbols};
 use elf_linking::bindings::uses::{NO_USES, SymbolUses, UsesError, uses_at};
 use elf_linking::dynamic::add_dynamic_uses;
-use nugwier_records::bindings::{BoundSymbol, Place, say_binding};
+use nugwier_records::bindings::{BoundSymbol, Place, tell_binding};
 use nugwier_report::problem::{Fault, Stop};
 use nugwier_report::quoted::{Quoted, QuotedSymbol, UnknownBinding};
-use nugwier_report::report::Report;
+use nugwier_report::tell::Tell;
 use nugwier_writing::json::Value;
 use nugwier_writing::kind::Kind;
 use std::alloc::{AllocError, Global};
-use std::io::Write;
 
 // A symbol that is bound, with its index, and what it binds to.
 type BoundOne = ((usize, Symbol), SymbolBinding);
 
 /// Says what each symbol of a file, whose object is at this place, binds to, and then what is missing or not known, for
 /// people under a heading.
-pub(crate) fn say_file<W: Write, V: Write>(
+pub(crate) fn tell_file<T: Tell>(
     alloc: Global,
     scope: Scope<'_, '_, '_, '_>,
     place: usize,
     file: &BoundFile<'_>,
-    report: &mut Report<'_, W, V>,
+    tell: &mut T,
 ) -> Result<(), Stop>
     ensures { let opened = file_view file.now in
         let objects = scope.entry.objects.now in
@@ -54,55 +49,44 @@ pub(crate) fn say_file<W: Write, V: Write>(
         OnOk result ((said : List Said)
         × AreSymbolsSaid indexed_view objects (scope_paths scope.entry.files.now) (map indexed_view objects) opened.opened.path
         opened.symbols versions (file_uses opened.opened opened.symbols.0) said
-        × (report.new ≡ saying report.old (file_heading place opened.opened.path ++ said))) }
+        × (tell.new ≡ saying T.one tell.old (file_heading place opened.opened.path ++ said))) }
 {
     let versions = scope.versions(place);
-    say_heading(place, file, report)?;
-    let found = uses_of(alloc, file, report)?;
+    tell_heading(place, file, tell)?;
+    let found = uses_of(alloc, file, tell)?;
     let uses = found.as_slice();
     let bound = bind_all(alloc, scope, file, uses, versions)?;
     let bound = bound.as_slice();
-    say_bindings(scope, file, bound, uses, versions, report)?;
-    say_problems(scope, file, bound, versions, report)?;
+    tell_bindings(scope, file, bound, uses, versions, tell)?;
+    tell_problems(scope, file, bound, versions, tell)?;
     Ok(())
 }
 
 // The path of a file, for people, after an empty line unless the file is the first one.
-fn say_heading<W: Write, V: Write>(
-    place: usize,
-    file: &BoundFile<'_>,
-    report: &mut Report<'_, W, V>,
-) -> Result<(), Stop>
-    ensures { OnOk result (report.new ≡ saying report.old (file_heading place file.now.path.now)) }
+fn tell_heading<T: Tell>(place: usize, file: &BoundFile<'_>, tell: &mut T) -> Result<(), Stop>
+    ensures { OnOk result (tell.new ≡ saying T.one tell.old (file_heading place file.now.path.now)) }
 {
     let kind = if place == 0 {
         Kind::FileHeading
     } else {
         Kind::NextFileHeading
     };
-    report.state(kind, &[("path", Value::Text(Some(file.path)))])
-}
-
-// No uses of this many symbols.
-fn no_uses(alloc: Global, count: usize) -> Result<Vec<SymbolUses>, AllocError>
-    ensures { IfOk result (λ uses. uses.items ≡ replicate count no_uses) }
-{
-    vec![in alloc; NO_USES; count]
+    tell.state(kind, &[("path", Value::Text(Some(file.path)))])
 }
 
 // What the relocations of a file refer to. Says if they cannot be read.
-fn uses_of<W: Write, V: Write>(
+fn uses_of<T: Tell>(
     alloc: Global,
     file: &BoundFile<'_>,
-    report: &mut Report<'_, W, V>,
+    tell: &mut T,
 ) -> Result<Vec<SymbolUses>, Stop>
     ensures uses { IfOk result (λ uses.
         AreUses (file_uses (open_at file.now.path.now file.now.file.now) (table_view file.now.symbols)) uses.items) }
-    ensures said { OnOk result (report.new ≡ saying report.old
+    ensures said { OnOk result (tell.new ≡ saying T.one tell.old
         (uses_problem file.now.path.now (file_uses (open_at file.now.path.now file.now.file.now) (table_view file.now.symbols)))) }
 {
-    let mut uses = no_uses(alloc, file.symbols.len())?;
-    read_uses(file, &mut uses, report)?;
+    let mut uses = vec![in alloc; NO_USES; file.symbols.len()]?;
+    read_uses(file, &mut uses, tell)?;
     Ok(uses)
 }
 
@@ -116,23 +100,23 @@ fn loaded_uses(file: &BoundFile<'_>, uses: &mut [SymbolUses]) -> Result<(), Uses
 }
 
 // Adds what the relocations of a file refer to, or says that they cannot be read.
-fn read_uses<W: Write, V: Write>(
+fn read_uses<T: Tell>(
     file: &BoundFile<'_>,
     uses: &mut [SymbolUses],
-    report: &mut Report<'_, W, V>,
+    tell: &mut T,
 ) -> Result<(), Stop>
     ensures uses { let opened = open_at file.now.path.now file.now.file.now in
         let read = dynamic_uses opened.machine opened.file uses.old in
         OnOk result (AreUses read uses.new) }
     ensures said { let opened = open_at file.now.path.now file.now.file.now in
         let read = dynamic_uses opened.machine opened.file uses.old in
-        OnOk result (report.new ≡ saying report.old (uses_problem file.now.path.now read)) }
+        OnOk result (tell.new ≡ saying T.one tell.old (uses_problem file.now.path.now read)) }
 {
     match loaded_uses(file, uses) {
         Ok(()) => Ok(()),
         Err(error) => {
             let path = Quoted::new(file.path);
-            report.problem(FILE, Fault::Relocations(path, error))
+            tell.problem(FILE, Fault::Relocations(path, error))
         }
     }
 }
@@ -173,62 +157,62 @@ fn paired(
 }
 
 // Says what the symbols bind to.
-fn say_bindings<'n, W: Write, V: Write>(
+fn tell_bindings<'n, T: Tell>(
     scope: Scope<'_, '_, '_, '_>,
     file: &BoundFile<'n>,
     bound: &[BoundOne],
     uses: &[SymbolUses],
     versions: Option<&'n Versions<'_, '_>>,
-    report: &mut Report<'_, W, V>,
+    tell: &mut T,
 ) -> Result<(), Stop>
     ensures { let said = one_said (scope_paths scope.entry.files.now) (map indexed_view scope.entry.objects.now)
         file.now.path.now file.now.strings (option_map (λ index. index.now) versions.entry) uses.now in
-        OnOk result (report.new ≡ saying report.old (flat_map said bound.now)) }
+        OnOk result (tell.new ≡ saying T.one tell.old (flat_map said bound.now)) }
 {
     for one in bound {
         let symbol = bound_symbol(file, versions, &one.0);
-        say_symbol(scope, &symbol, uses_at(uses, one.0.0), &one.1, report)?;
+        tell_symbol(scope, &symbol, uses_at(uses, one.0.0), &one.1, tell)?;
     }
     Ok(())
 }
 
 // Says what is missing or not known.
-fn say_problems<'n, W: Write, V: Write>(
+fn tell_problems<'n, T: Tell>(
     scope: Scope<'_, '_, '_, '_>,
     file: &BoundFile<'n>,
     bound: &[BoundOne],
     versions: Option<&'n Versions<'_, '_>>,
-    report: &mut Report<'_, W, V>,
+    tell: &mut T,
 ) -> Result<(), Stop>
     ensures { let said = one_problems (scope_paths scope.entry.files.now) file.now.path.now file.now.strings
         (option_map (λ index. index.now) versions.entry) in
-        OnOk result (report.new ≡ saying report.old (flat_map said bound.now)) }
+        OnOk result (tell.new ≡ saying T.one tell.old (flat_map said bound.now)) }
 {
     for one in bound {
-        say_symbol_problems(scope, &bound_symbol(file, versions, &one.0), &one.1, report)?;
+        tell_symbol_problems(scope, &bound_symbol(file, versions, &one.0), &one.1, tell)?;
     }
     Ok(())
 }
 
 // Says what a symbol binds to, by each kind of references. A function whose address is found elsewhere than its calls go
 // has a line for each.
-fn say_symbol<W: Write, V: Write>(
+fn tell_symbol<T: Tell>(
     scope: Scope<'_, '_, '_, '_>,
     symbol: &BoundSymbol<'_>,
     uses: SymbolUses,
     binding: &SymbolBinding,
-    report: &mut Report<'_, W, V>,
+    tell: &mut T,
 ) -> Result<(), Stop>
-    ensures { OnOk result (report.new ≡ saying report.old (symbol_said (scope_paths scope.entry.files.now)
+    ensures { OnOk result (tell.new ≡ saying T.one tell.old (symbol_said (scope_paths scope.entry.files.now)
         (map indexed_view scope.entry.objects.now) (bound_view symbol.now) uses binding.now)) }
 {
     let calls = &binding.jump_slot;
     let address = &binding.address;
     let place = address_place(calls, address);
     let copied = &binding.copied;
-    say_reference(scope, symbol, Place::First, calls_word(uses), calls, report)?;
-    say_reference(scope, symbol, place, Some("address"), address, report)?;
-    say_reference(scope, symbol, Place::First, Some("copy"), copied, report)
+    tell_reference(scope, symbol, Place::First, calls_word(uses), calls, tell)?;
+    tell_reference(scope, symbol, place, Some("address"), address, tell)?;
+    tell_reference(scope, symbol, Place::First, Some("copy"), copied, tell)
 }
 
 // The kind of references that look-ups for calls are made for, if a relocation names the symbol.
@@ -238,55 +222,49 @@ fn calls_word(uses: SymbolUses) -> Option<&'static str>
     uses.jump_slot.then_some("jump_slot")
 }
 
-fn say_reference<W: Write, V: Write>(
+fn tell_reference<T: Tell>(
     scope: Scope<'_, '_, '_, '_>,
     symbol: &BoundSymbol<'_>,
     place: Place,
     reference: Option<&'static str>,
     outcome: &Option<Outcome>,
-    report: &mut Report<'_, W, V>,
+    tell: &mut T,
 ) -> Result<(), Stop>
-    ensures { OnOk result (report.new ≡ saying report.old (reference_said (scope_paths scope.entry.files.now)
+    ensures { OnOk result (tell.new ≡ saying T.one tell.old (reference_said (scope_paths scope.entry.files.now)
         (map indexed_view scope.entry.objects.now) (bound_view symbol.now) place (option_copied reference.entry) outcome.now)) }
 {
     match outcome {
-        Some(outcome) => say_binding(symbol, place, reference, &scope.target(outcome), report),
+        Some(outcome) => tell_binding(symbol, place, reference, &scope.target(outcome), tell),
         None => Ok(()),
     }
 }
 
 // Says what is missing or not known of a symbol.
-fn say_symbol_problems<W: Write, V: Write>(
+fn tell_symbol_problems<T: Tell>(
     scope: Scope<'_, '_, '_, '_>,
     symbol: &BoundSymbol<'_>,
     binding: &SymbolBinding,
-    report: &mut Report<'_, W, V>,
+    tell: &mut T,
 ) -> Result<(), Stop>
-    ensures { OnOk result (report.new ≡ saying report.old
+    ensures { OnOk result (tell.new ≡ saying T.one tell.old
         (symbol_problems (scope_paths scope.entry.files.now) (bound_view symbol.now) binding.now)) }
 {
     let calls = &binding.jump_slot;
     let address = &binding.address;
-    say_reference_problem(scope, symbol, Place::First, calls, report)?;
-    say_reference_problem(
-        scope,
-        symbol,
-        address_place(calls, address),
-        address,
-        report,
-    )?;
-    say_reference_problem(scope, symbol, Place::First, &binding.copied, report)
+    tell_reference_problem(scope, symbol, Place::First, calls, tell)?;
+    tell_reference_problem(scope, symbol, address_place(calls, address), address, tell)?;
+    tell_reference_problem(scope, symbol, Place::First, &binding.copied, tell)
 }
 
 // What is the same for the calls is told with these.
-fn say_reference_problem<W: Write, V: Write>(
+fn tell_reference_problem<T: Tell>(
     scope: Scope<'_, '_, '_, '_>,
     symbol: &BoundSymbol<'_>,
     place: Place,
     outcome: &Option<Outcome>,
-    report: &mut Report<'_, W, V>,
+    tell: &mut T,
 ) -> Result<(), Stop>
-    ensures { OnOk result (report.new ≡ saying report.old
+    ensures { OnOk result (tell.new ≡ saying T.one tell.old
         (reference_problem (scope_paths scope.entry.files.now) (bound_view symbol.now) place outcome.now)) }
 {
     let Some(outcome) = outcome else {
@@ -294,48 +272,31 @@ fn say_reference_problem<W: Write, V: Write>(
     };
     match place {
         Place::Same => Ok(()),
-        Place::First | Place::Elsewhere => say_outcome(scope, symbol, outcome, report),
+        Place::First | Place::Elsewhere => tell_outcome(scope, symbol, outcome, tell),
     }
 }
 
-fn say_outcome<W: Write, V: Write>(
+fn tell_outcome<T: Tell>(
     scope: Scope<'_, '_, '_, '_>,
     symbol: &BoundSymbol<'_>,
     outcome: &Outcome,
-    report: &mut Report<'_, W, V>,
+    tell: &mut T,
 ) -> Result<(), Stop>
-    ensures { OnOk result (report.new ≡ saying report.old
+    ensures { OnOk result (tell.new ≡ saying T.one tell.old
         (outcome_problem (scope_paths scope.entry.files.now) (bound_view symbol.now) outcome.now)) }
 {
-    match outcome {
-        Ok(Bound::Missing) => {
-            let path = Quoted::new(symbol.path);
-            report.problem(FILE, Fault::MissingSymbol(path, quoted(symbol)))
-        }
-        Ok(_) => Ok(()),
-        Err(fault) => say_fault(scope, symbol, fault, report),
-    }
-}
-
-fn say_fault<W: Write, V: Write>(
-    scope: Scope<'_, '_, '_, '_>,
-    symbol: &BoundSymbol<'_>,
-    fault: &SymbolFault,
-    report: &mut Report<'_, W, V>,
-) -> Result<(), Stop>
-    ensures { OnOk result (report.new ≡ saying report.old
-        (fault_problem (scope_paths scope.entry.files.now) (bound_view symbol.now) fault.now)) }
-{
     let path = Quoted::new(symbol.path);
-    match fault {
-        SymbolFault::Object(version) => {
+    match outcome {
+        Ok(Bound::Missing) => tell.problem(FILE, Fault::MissingSymbol(path, quoted(symbol))),
+        Ok(_) => Ok(()),
+        Err(SymbolFault::Object(version)) => {
             let other = Quoted::new(scope.path(version.object));
             let told = Fault::UnknownVersion(path, quoted(symbol), other, version.symbol);
-            report.problem(FILE, told)
+            tell.problem(FILE, told)
         }
-        _ => {
+        Err(fault) => {
             let unknown = UnknownBinding::new(fault);
-            report.problem(FILE, Fault::UnknownSymbol(path, quoted(symbol), unknown))
+            tell.problem(FILE, Fault::UnknownSymbol(path, quoted(symbol), unknown))
         }
     }
 }

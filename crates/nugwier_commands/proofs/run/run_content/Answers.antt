@@ -1,16 +1,27 @@
-use Rattle.nugwier_commands.proofs.Programs.{of_bindings, of_tree}
-use Rattle.nugwier_report.specs.Texts.{Written}
+use Rattle.nugwier_commands.specs.Run.{IsContentSaid, IsOne, IsProgramSaid}
+use Rattle.nugwier_commands.proofs.Lifting.{one_of, then_told}
+use Rattle.nugwier_commands.proofs.Programs.{bindings_content, tree_content}
 use Rattle.nugwier_words.specs.Words.{task_of}
 use Rattle.nugwier_commands.proofs.run.run_content.Goals as goal
 
 pub returns-in-Tree : goal.returns-in-Tree
 returns-in-Tree g c =
-    let before : Written = record { out = g.W.Write.contents c.args.out; err = g.V.Write.contents c.args.err } in
-    of_tree g.W.Write.contents g.V.Write.contents (g.F.Files.known c.args.files.now) (task_of c.args.target.job.now) c.args.target.heading c.args.target.path.now c.args.data.items before c.say_program.result
-    c.in-Tree.is c.say_program.ensures
+    let known = g.F.Files.known c.args.files.now in
+    let task = task_of c.args.target.job.now in
+    let heading = c.args.target.heading in
+    let path = c.args.target.path.now in
+    let bytes = c.args.data.items in
+    then_told g.R.Run.one c.tell_program.result _ _ _ (IsOne heading path (IsContentSaid known task.command task path bytes))
+    (one_of heading path (IsProgramSaid known task.command task path bytes) (IsContentSaid known task.command task path bytes)
+    (λ named said h. tree_content known task path bytes named said task.command c.in-Tree.is h)) c.tell_program.ensures
 
 pub returns-in-Bindings : goal.returns-in-Bindings
 returns-in-Bindings g c =
-    let before : Written = record { out = g.W.Write.contents c.args.out; err = g.V.Write.contents c.args.err } in
-    of_bindings g.W.Write.contents g.V.Write.contents (g.F.Files.known c.args.files.now) (task_of c.args.target.job.now) c.args.target.heading c.args.target.path.now c.args.data.items before c.say_program-in-Bindings.result
-    c.in-Bindings.is c.say_program-in-Bindings.ensures
+    let known = g.F.Files.known c.args.files.now in
+    let task = task_of c.args.target.job.now in
+    let heading = c.args.target.heading in
+    let path = c.args.target.path.now in
+    let bytes = c.args.data.items in
+    then_told g.R.Run.one c.tell_program-in-Bindings.result _ _ _ (IsOne heading path (IsContentSaid known task.command task path bytes))
+    (one_of heading path (IsProgramSaid known task.command task path bytes) (IsContentSaid known task.command task path bytes)
+    (λ named said h. bindings_content known task path bytes named said task.command c.in-Bindings.is h)) c.tell_program-in-Bindings.ensures

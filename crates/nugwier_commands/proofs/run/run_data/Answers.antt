@@ -1,7 +1,7 @@
-use Rattle.std.proofs.Common.{ap, sym, ◌∙◌}
-use Rattle.nugwier_commands.proofs.Begun.{one_file}
-use Rattle.nugwier_commands.proofs.Lifting.{as_all}
+use Rattle.std.proofs.Common.{sym, ap, ◌∙◌}
 use Rattle.nugwier_commands.specs.Run.{AreBytesSaid, IsContentSaid, IsElfSaid}
+use Rattle.nugwier_commands.proofs.Begun.{one_file}
+use Rattle.nugwier_commands.proofs.Lifting.{from_one, then_told}
 use Rattle.nugwier_report.specs.Formats.{front}
 use Rattle.nugwier_words.specs.Words.{task_of}
 use Rattle.nugwier_commands.proofs.run.run_data.Goals as goal
@@ -13,6 +13,6 @@ returns-else-is_archive g c =
     let heading = c.args.target.heading in
     let path = c.args.target.path.now in
     let bytes = c.args.data.items in
-    as_all g.W.Write.contents g.V.Write.contents task heading path (IsElfSaid (IsContentSaid known task.command task path) bytes) (record { out = g.W.Write.contents c.args.out; err = g.V.Write.contents c.args.err }) c.run_one.result
-    (AreBytesSaid known task heading path bytes)
-    (λ named said h. one_file known task heading path bytes c.front_in.result.now named said (c.front_in.ensures ∙ ap front c.as_slice.ensures.value) (sym c.is_archive.ensures ∙ c.if-is_archive.false) h) c.run_one.ensures
+    then_told g.R.Run.one c.run_one.result _ _ _ (AreBytesSaid known task heading path bytes)
+    (from_one heading path (IsElfSaid (IsContentSaid known task.command task path) bytes) (AreBytesSaid known task heading path bytes)
+    (λ named said h. one_file known task heading path bytes c.front_in.result.now named said (c.front_in.ensures ∙ ap front c.as_slice.ensures.value) (sym c.is_archive.ensures ∙ c.if-is_archive.false) h)) c.run_one.ensures

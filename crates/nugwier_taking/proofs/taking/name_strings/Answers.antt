@@ -1,10 +1,10 @@
 use Rattle.std.specs.Prelude.{true}
 use Rattle.nugwier_taking.specs.Whole.{file_of}
-use Rattle.nugwier_taking.proofs.Taken.{names_follow, taken_whole}
+use Rattle.nugwier_taking.proofs.Follows.{names_follow, read_whole}
 use Rattle.nugwier_taking.proofs.taking.name_strings.Goals as goal
 
 pub returns : goal.returns
 returns g c =
     let file = c.args.file.now in
     let whole = file_of (g.R.Headers.file file) (g.R.ListedFile.bytes file) in
-    taken_whole _ _ _ _ _ c.section_names.ensures.value c.taken.ensures (names_follow whole (g.R.Reader.ranges file) (λ _. true) c.is_part.ensures.part)
+    read_whole _ _ _ _ _ c.section_names.ensures.value c.unless_missing.ensures (names_follow whole (g.R.Reader.ranges file) (λ _. true) c.is_part.ensures.part)

@@ -10,5 +10,5 @@ use Rattle.nugwier_programs.proofs.bindings.objects.add_files.Given as goal
 abbrev pub invariant-loop-file : goal.invariant-loop-file
 invariant-loop-file g l =
     (so_far : List Searching) × AreEachWith IsFileSearched (map open_view l.files) l.file-index so_far
-    × (l.report ≡ saying l.fn.report (flat_map search_problem so_far))
+    × (l.tell ≡ saying g.T.Tell.one l.fn.tell (flat_map search_problem so_far))
     × (map searched_file l.found.items ≡ map searched_file l.fn.found.items ++ flat_map files_of so_far)

@@ -1,4 +1,4 @@
-use Rattle.std.proofs.Common.{[], ◌∷◌, ◌∙◌, ℕ, List, Option, Some, ap, refl, subst, sym}
+use Rattle.std.proofs.Common.{[], ◌∷◌, ◌∙◌, ℕ, List, Option, Some, ap, refl, subst}
 use Rattle.std.proofs.lemmas.Option.{IfSome_then}
 use Rattle.elf_linking.specs.declared.resolve.ObjectFault.TheVariants.{Read}
 use Rattle.nugwier_report.specs.Said.{saying, whole, wrong}
@@ -8,7 +8,6 @@ use Rattle.nugwier_programs.specs.Bindings.{Gone, Loaded, Refused}
 use Rattle.nugwier_programs.specs.inner.Opening.{IsLoadedFrom}
 use Rattle.nugwier_programs.specs.inner.Scope.{open_at}
 use Rattle.nugwier_programs.proofs.Linked.{file_gone, file_loaded, file_refused, of_file}
-use Rattle.nugwier_programs.proofs.Walk.{saying_nothing}
 use Rattle.nugwier_programs.proofs.bindings.objects.open_file.Goals as goal
 
 pub returns-in-Some-Ok : goal.returns-in-Some-Ok
@@ -17,7 +16,7 @@ returns-in-Some-Ok g c =
     let file = c.in-Some-Ok.file in
     let found = c.in-Some-Ok.is ∙ ap Some c.in-Some-Ok.field-0-is in
     let content = IfSome_then _ c.in_ok-file.ensures (λ (content : Option (List ℕ)) h. file_loaded path file content (subst (IsLoadedFrom content) found h)) in
-    (Loaded (open_at path file), of_file (g.F.Files.known c.args.files.now) c.args.object.now.file c.in-Some.loaded _ c.in-Some.is (c.as_slice-path.ensures.value, content), refl, sym (saying_nothing c.args.report.now))
+    (Loaded (open_at path file), of_file (g.F.Files.known c.args.files.now) c.args.object.now.file c.in-Some.loaded _ c.in-Some.is (c.as_slice-path.ensures.value, content), refl, refl)
 
 pub returns-in_ok-problem-in-Some-Err : goal.returns-in_ok-problem-in-Some-Err
 returns-in_ok-problem-in-Some-Err g c =
@@ -28,7 +27,7 @@ returns-in_ok-problem-in-Some-Err g c =
       Refused path e,
       of_file (g.F.Files.known c.args.files.now) c.args.object.now.file c.in-Some.loaded _ c.in-Some.is (c.as_slice-path.ensures.value, content),
       refl,
-      c.in_ok-problem-in-Some-Err.ensures ∙ ap (λ (p : List ℕ). saying c.args.report.now (wrong (whole File) (Object p (Read e)) ∷ [])) c.new.ensures,
+      c.in_ok-problem-in-Some-Err.ensures ∙ ap (λ (p : List ℕ). saying g.T.Tell.one c.args.tell.now (wrong (whole File) (Object p (Read e)) ∷ [])) c.new.ensures,
     )
 
 pub returns-in_ok-problem-in-None : goal.returns-in_ok-problem-in-None
@@ -38,5 +37,5 @@ returns-in_ok-problem-in-None g c =
       Gone path,
       of_file (g.F.Files.known c.args.files.now) c.args.object.now.file c.in-Some.loaded _ c.in-Some.is (c.as_slice-path.ensures.value, content),
       refl,
-      c.in_ok-problem-in-None.ensures ∙ ap (λ (p : List ℕ). saying c.args.report.now (wrong (whole File) (Unread p) ∷ [])) c.new-in-None.ensures,
+      c.in_ok-problem-in-None.ensures ∙ ap (λ (p : List ℕ). saying g.T.Tell.one c.args.tell.now (wrong (whole File) (Unread p) ∷ [])) c.new-in-None.ensures,
     )

@@ -1,4 +1,4 @@
-use Rattle.std.proofs.Common.{◌++◌, ◌∙◌, ℕ, ◌≤◌, ◌∷◌, [], List, ap, map, subst, sym}
+use Rattle.std.proofs.Common.{◌++◌, ◌∙◌, ℕ, ◌≤◌, ◌∷◌, [], List, ap, map, refl, subst, sym}
 use Rattle.std.proofs.lemmas.List.{length-map}
 use Rattle.std.specs.List.{flat_map}
 use Rattle.elf_libraries.specs.Tree.{entry_of}
@@ -6,11 +6,12 @@ use Rattle.nugwier_report.specs.Said.{saying}
 use Rattle.nugwier_programs.specs.Bindings.{IsOpening, OpenFile, files_in, open_problem}
 use Rattle.nugwier_programs.specs.inner.Scope.{open_view}
 use Rattle.nugwier_programs.proofs.Scopes.{each_done, each_next}
-use Rattle.nugwier_programs.proofs.Walk.{flat_more, said_two, saying_nothing}
+use Rattle.nugwier_report.proofs.Saying.{then_said}
+use Rattle.nugwier_programs.proofs.Walk.{flat_more}
 use Rattle.nugwier_programs.proofs.bindings.objects.open_files.Goals as goal
 
 pub loop-object-init : goal.loop-object-init
-loop-object-init g c = ([], λ rest each. each, ap (map open_view) c.new-opened.ensures.items, sym (saying_nothing c.args.report.now))
+loop-object-init g c = ([], λ rest each. each, ap (map open_view) c.new-opened.ensures.items, refl)
 
 pub loop-object-preserved : goal.loop-object-preserved
 loop-object-preserved g c =
@@ -19,7 +20,7 @@ loop-object-preserved g c =
       before.0 ++ one.0 ∷ [],
       each_next (IsOpening (g.F.Files.known c.args.files.now)) entry_of c.args.objects.now c.loop-object.object-index c.object-item.result before.0 one.0 c.loop-object-test.true c.object-item.is one.1 before.1,
       one.2 ∙ ap (λ (l : List OpenFile). l ++ files_in one.0) before.2 ∙ sym (flat_more files_in before.0 one.0),
-      said_two c.args.report.now c.loop-object.report c.add_open.new.report (flat_map open_problem before.0) (open_problem one.0) before.3 one.3 ∙ ap (saying c.args.report.now) (sym (flat_more open_problem before.0 one.0)),
+      then_said g.T.Tell.one c.args.tell.now c.loop-object.tell c.add_open.new.tell (flat_map open_problem before.0) (open_problem one.0) before.3 one.3 ∙ ap (saying g.T.Tell.one c.args.tell.now) (sym (flat_more open_problem before.0 one.0)),
     )
 
 pub returns : goal.returns

@@ -12,4 +12,4 @@ abbrev pub invariant-loop-object : goal.invariant-loop-object
 invariant-loop-object g l =
     (so_far : List Opening) × AreEachWith (IsOpening (g.F.Files.known l.files)) (map entry_of l.objects) l.object-index so_far
     × (map open_view l.opened.items ≡ flat_map files_in so_far)
-    × (l.report ≡ saying l.fn.report (flat_map open_problem so_far))
+    × (l.tell ≡ saying g.T.Tell.one l.fn.tell (flat_map open_problem so_far))

@@ -1,11 +1,8 @@
-use Rattle.std.proofs.Common.{◌≡◌, ℕ, List, Result, Ok, Err, OnOk, ap, sym, ◌∙◌, subst}
+use Rattle.std.proofs.Common.{List, Result, Ok, Err, OnOk, ap, sym, ◌∙◌, subst}
 use Rattle.elf_records.specs.Number.{ok_map}
-use Rattle.elf_linking.specs.DynamicFile.{dynamic_uses}
 use Rattle.elf_linking.specs.declared.bindings.uses.SymbolUses.{SymbolUses}
 use Rattle.elf_linking.specs.declared.bindings.uses.UsesError.{UsesError}
-use Rattle.nugwier_report.specs.Said.{Said, saying}
-use Rattle.nugwier_programs.specs.Bindings.{AreUses, uses_problem}
-use Rattle.nugwier_programs.specs.inner.Scope.{open_at}
+use Rattle.nugwier_programs.specs.Bindings.{AreUses}
 use Rattle.nugwier_programs.proofs.bindings.rows.read_uses.Goals as goal
 
 on_any : {T E P : Type 0} (r : Result T E) → P → OnOk r P

@@ -1,0 +1,13 @@
+use Rattle.std.proofs.Common.{◌≡◌, length}
+use Rattle.nugwier_notes.specs.CoreNotes.{mappings_said}
+use Rattle.nugwier_report.specs.Said.{saying}
+use Rattle.nugwier_notes.proofs.core_notes.tell_mappings.Given as goal
+
+-- what was said so far, and then what is said of the mappings that are left, is the whole
+abbrev pub invariant-loop-first : goal.invariant-loop-first
+invariant-loop-first g l =
+    saying g.T.Tell.one l.tell (mappings_said l.file l.part l.number l.left l.rest l.names)
+    ≡ saying g.T.Tell.one l.initial.tell (mappings_said l.file l.part l.number l.table l.table l.texts)
+
+abbrev pub decreases-loop-first : goal.decreases-loop-first
+decreases-loop-first g l = length l.left

@@ -1,0 +1,13 @@
+use Rattle.std.proofs.Common.{◌≡◌, length}
+use Rattle.nugwier_notes.specs.Properties.{properties_said}
+use Rattle.nugwier_report.specs.Said.{saying}
+use Rattle.nugwier_notes.proofs.properties.tell_properties.Given as goal
+
+-- what was said so far, and then what is said of the properties that are left, is the whole
+abbrev pub invariant-loop-first : goal.invariant-loop-first
+invariant-loop-first g l =
+    saying g.T.Tell.one l.tell (properties_said l.file l.part l.note l.left l.rest)
+    ≡ saying g.T.Tell.one l.initial.tell (properties_said l.file l.part l.note l.bytes l.bytes)
+
+abbrev pub decreases-loop-first : goal.decreases-loop-first
+decreases-loop-first g l = length l.left

@@ -1,9 +1,0 @@
-use Rattle.std.proofs.Common.{arith}
-use Rattle.std.proofs.lemmas.Grind.{common_steps}
-use Rattle.nugwier_report.proofs.rows.say_slice.Goals as goal
-
-pub loop-item-preserved : goal.loop-item-preserved
-loop-item-preserved g c = grind (arith, common_steps)
-
-pub returns : goal.returns
-returns g c = grind (arith, common_steps)
