@@ -1,7 +1,7 @@
 //! Lines of the configuration of the dynamic linker.
 use crate::row_words::Words;
 use crate::shown::text;
-use elf_dynamic::conf::{ConfLine, conf_lines};
+use elf_libraries::conf::{ConfLine, conf_lines};
 use std::io;
 
 /// `conf BYTES`: what the lines of the file name.

@@ -27,6 +27,8 @@ pub mod BuildId
 pub mod Sound
 pub mod Faults
 pub mod Verdict
+-- the texts of faults
+pub mod Texts
 -- all faults of a file, and a walk over them
 pub mod AllFaults
 pub mod Stages

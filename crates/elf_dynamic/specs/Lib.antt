@@ -6,5 +6,5 @@ pub mod Relr
 pub mod dynamic_view
 -- what says where a file has what is linked
 pub mod Linked
--- the lines of the configuration of libraries
-pub mod Conf
+-- the texts of errors
+pub mod Texts

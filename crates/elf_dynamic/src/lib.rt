@@ -3,7 +3,6 @@
 //! and `conf` has the lines of the configuration that names the folders of libraries.
 #![tactic(auto)]
 
-pub mod conf;
 pub mod dynamic_view;
 pub mod linked;
 pub mod relr;

@@ -7,6 +7,8 @@ pub mod SoundGnu
 pub mod Indexed
 -- what each fault says
 pub mod Faults
+-- the texts of faults
+pub mod Texts
 -- which fault is the first one
 pub mod First
 -- what a checker says, and how many symbols it reads

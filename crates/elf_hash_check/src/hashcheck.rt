@@ -15,6 +15,7 @@ pub use any::{AnyChecked, HashKind, HashSection, check_any};
 pub use gnu::{CheckedGnuHash, check_gnu, check_gnu_counted};
 pub use named::NamedSymbols;
 pub use reads::Reads;
+use std::fmt;
 pub use sysv::{CheckedSysvHash, check_sysv, check_sysv_counted};
 
 /// Why a section is not sound. An index is the index of a symbol; buckets are counted from 0.
@@ -36,6 +37,30 @@ pub enum HashFault {
     NoBloomBit { index: usize },
     /// GNU: the chain word does not lie in the run of the bucket of the symbol's name.
     NotInRun { index: usize },
+}
+
+// The form that `Debug` has.
+impl fmt::Display for HashFault {
+    ghost use Rattle.elf_hash_check.specs.Texts.{fault_text};
+
+    ghost output = { fault_text };
+
+    fn fmt<W: fmt::Write>(&self, f: &mut fmt::Formatter<W>) -> fmt::Result {
+        match self {
+            HashFault::Endless { bucket } => write!(f, "Endless {{ bucket: {bucket} }}"),
+            HashFault::PastChains { bucket, index } => {
+                write!(f, "PastChains {{ bucket: {bucket}, index: {index} }}")
+            }
+            HashFault::Unreadable { index } => write!(f, "Unreadable {{ index: {index} }}"),
+            HashFault::WrongBucket { bucket, index } => {
+                write!(f, "WrongBucket {{ bucket: {bucket}, index: {index} }}")
+            }
+            HashFault::ShiftTooLarge => f.write_str("ShiftTooLarge"),
+            HashFault::WrongHash { index } => write!(f, "WrongHash {{ index: {index} }}"),
+            HashFault::NoBloomBit { index } => write!(f, "NoBloomBit {{ index: {index} }}"),
+            HashFault::NotInRun { index } => write!(f, "NotInRun {{ index: {index} }}"),
+        }
+    }
 }
 
 /// The result of a check: a checked table, or a fault of the section.

@@ -1,3 +1,8 @@
 pub mod Expanding
 pub mod Loading
-mod Opening
+mod OpenedWhole
+-- names by shell patterns, and the folders of ld.so.conf
+pub mod Listed
+pub mod Matching
+pub mod Configuring
+pub mod Texts

@@ -2,3 +2,5 @@
 pub mod LoadedNames
 -- what is loaded so far
 pub mod Loading
+-- paths, and a set of the same
+pub mod Paths

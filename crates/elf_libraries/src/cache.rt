@@ -5,7 +5,7 @@
 //! Of the entries for some processors only those for subfolders of `glibc-hwcaps` are read, and not the level that such a
 //! library itself needs. Two names are the same if their bytes are; glibc also ignores zeros before a number in a name. A
 //! file that gives the path of an entry is not looked for.
-ghost use Rattle.std.specs.Prelude.{◌≡◌, ◌==◌, drop, map, refl, true};
+ghost use Rattle.std.specs.Prelude.{◌≡◌, ◌==◌, map, refl, true};
 ghost use Rattle.std.specs.List.{find, list_any};
 ghost use Rattle.std.specs.Option.{option_map};
 ghost use Rattle.elf_records.specs.Endian.{any_is_little};
@@ -23,6 +23,7 @@ use elf_abi::abi;
 use elf_records::endian::{AnyEndian, EndianParse};
 use elf_records::file::Class;
 use elf_records::parse::{ParseAt, ParseError, ParsingTable, get_bytes};
+use elf_records::slices::rest_of;
 use elf_records::string_table::{StringTable, TerminatedStrings};
 use thiserror::Error;
 
@@ -256,13 +257,6 @@ fn is_for(place: Option<usize>, hwcap: u64) -> bool
     }
 }
 
-// The bytes from `start` on.
-fn bytes_from(file: &[u8], start: usize) -> &[u8]
-    ensures { result.now ≡ drop start file.now }
-{
-    file.get(start..).unwrap_or(&[])
-}
-
 // Where the cache of the older format ends, with what aligns the next one.
 fn end_of_old(order: AnyEndian, file: &[u8]) -> Result<usize, ParseError>
     ensures { result ≡ end_of_old (any_is_little order) file.now }
@@ -276,7 +270,7 @@ fn end_of_old(order: AnyEndian, file: &[u8]) -> Result<usize, ParseError>
 fn new_at(file: &[u8], start: usize) -> Result<&[u8], CacheError>
     ensures { ok_map (λ bytes. bytes.now) result ≡ new_at file.now start }
 {
-    let bytes = bytes_from(file, start);
+    let bytes = rest_of(start, file);
     if bytes.starts_with(NEW_MAGIC) {
         Ok(bytes)
     } else {

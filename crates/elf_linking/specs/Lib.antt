@@ -21,4 +21,6 @@ pub mod SymbolBindings
 pub mod Missing
 pub mod Needed
 pub mod Readings
+-- the texts of errors
+pub mod Texts
 pub mod inner

@@ -27,6 +27,7 @@ use elf::string_table::{StringTable, TerminatedStrings};
 use elf::{ElfStream, ParseError, ReadError, StreamSource, abi};
 use elf_dynamic::dynamic_view::{has_tag, part_of, value_in};
 use std::alloc::{AllocError, AllocFailed, Allocator, Global};
+use std::fmt;
 use thiserror::Error;
 
 /// A name in the string table of a file, by its offset in bytes. `Names::bytes` returns its bytes.
@@ -106,26 +107,40 @@ impl Names {
 #[derive(Debug, Drop, Error)]
 pub enum NamesError {
     /// The bytes cannot be read.
-    #[error("{0}")]
     Read(ParseError),
     /// The bytes from a start to an end, which lie in the file, are not loaded.
-    #[error("Bytes in range [0x{:X}, 0x{:X}) are not loaded", .0.0, .0.1)]
     Missing((u64, u64)),
     /// No entry gives the address of the string table.
-    #[error("no entry DT_STRTAB")]
     NoAddress,
     /// No entry gives the size of the string table.
-    #[error("no entry DT_STRSZ")]
     NoSize,
     /// No loaded segment has the string table, which begins at this address, in the file.
-    #[error("no segment holds the string table at 0x{0:x}")]
     NotLoaded(u64),
     /// The string that an entry names cannot be read.
-    #[error("{0}")]
     Name(ParseError),
     /// An allocation failed.
-    #[error("out of memory")]
     Memory,
+}
+
+impl fmt::Display for NamesError {
+    ghost use Rattle.elf_linking.specs.Texts.{names_text};
+
+    ghost output = { names_text };
+
+    fn fmt<W: fmt::Write>(&self, f: &mut fmt::Formatter<W>) -> fmt::Result {
+        match self {
+            NamesError::Read(error) | NamesError::Name(error) => write!(f, "{error}"),
+            NamesError::Missing((start, end)) => {
+                write!(f, "Bytes in range [0x{start:X}, 0x{end:X}) are not loaded")
+            }
+            NamesError::NoAddress => f.write_str("no entry DT_STRTAB"),
+            NamesError::NoSize => f.write_str("no entry DT_STRSZ"),
+            NamesError::NotLoaded(address) => {
+                write!(f, "no segment holds the string table at 0x{address:x}")
+            }
+            NamesError::Memory => f.write_str("out of memory"),
+        }
+    }
 }
 
 impl From<AllocError> for NamesError {

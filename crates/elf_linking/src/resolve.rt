@@ -18,24 +18,36 @@ use elf_hash_check::hashcheck::HashFault;
 pub use elf_hash_check::hashcheck::{AnyChecked, HashSection};
 pub(crate) use objects::{HashBytes, HashParts, checked_in};
 pub use objects::{object_table, resolve, section_table};
+use std::fmt;
 use thiserror::Error;
 
 /// Why a file with a hash section has no checked table.
 #[derive(Debug, Drop, Error)]
 pub enum ObjectFault {
     /// The bytes of the section, the dynamic symbols, or the table in these bytes cannot be read.
-    #[error("{0}")]
     Read(ParseError),
     /// The file has no dynamic symbol table.
-    #[error("no dynamic symbol table")]
     NoSymbols,
     /// The section is not sound for the dynamic symbols.
-    #[error("hash section is not sound: {0:?}")]
     Faulty(HashFault),
     /// What the dynamic linker uses of the file is not available: of a file that declares no section headers through
     /// its segments, or since a range is not loaded (`DynamicError::Missing`).
-    #[error("{0}")]
     Dynamic(DynamicError),
+}
+
+impl fmt::Display for ObjectFault {
+    ghost use Rattle.elf_linking.specs.Texts.{object_text};
+
+    ghost output = { object_text };
+
+    fn fmt<W: fmt::Write>(&self, f: &mut fmt::Formatter<W>) -> fmt::Result {
+        match self {
+            ObjectFault::Read(error) => write!(f, "{error}"),
+            ObjectFault::NoSymbols => f.write_str("no dynamic symbol table"),
+            ObjectFault::Faulty(fault) => { write!(f, "hash section is not sound: {fault}") }
+            ObjectFault::Dynamic(error) => write!(f, "{error}"),
+        }
+    }
 }
 
 impl From<DynamicError> for ObjectFault {

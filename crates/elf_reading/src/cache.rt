@@ -106,13 +106,13 @@ impl<A: Allocator> Cache<A> {
         if self.buffers.insert(start, bytes).is_err() {
             return Err(ParseError::OutOfMemory);
         }
-        take_within(&mut self.buffers, start, end);
+        remove_within(&mut self.buffers, start, end);
         Ok(())
     }
 }
 
 // Drops the buffers that start past `start` and end at or before `end`.
-fn take_within<A: Allocator>(buffers: &mut BTreeMap<u64, Vec<u8, A>, A>, start: u64, end: u64)
+fn remove_within<A: Allocator>(buffers: &mut BTreeMap<u64, Vec<u8, A>, A>, start: u64, end: u64)
     requires { AreSpread (λ v. v.items) (filter (λ e. nat_lt start e.0) buffers.old.entries) }
     ensures { buffers.new.entries
         ≡ filter (λ e. not (is_within start end (piece_of (λ v. v.items) e))) buffers.old.entries }

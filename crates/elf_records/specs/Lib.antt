@@ -23,6 +23,8 @@ pub mod Compression
 pub mod Table
 -- strings that end in a 0 byte
 pub mod StringTable
+-- the texts of errors
+pub mod Texts
 -- what equality is, and what a clone is
 pub mod Equality
 pub mod Clones

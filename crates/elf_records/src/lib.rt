@@ -11,5 +11,6 @@ pub mod parse;
 pub mod relocation;
 pub mod section;
 pub mod segment;
+pub mod slices;
 pub mod string_table;
 pub mod symbol;

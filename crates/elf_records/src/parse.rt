@@ -14,6 +14,7 @@ ghost use Rattle.elf_records.specs.declared.parse.ParseError.TheVariants.{Utf8Er
 use crate::endian::EndianParse;
 use crate::file::Class;
 use std::alloc::AllocError;
+use std::fmt;
 use thiserror::Error;
 
 mod integers;
@@ -26,58 +27,100 @@ pub use table::{ParsingIterator, ParsingTable, read_quickly, read_record};
 #[derive(Debug, Drop, Error)]
 pub enum ParseError {
     /// The first four bytes are not 7f 45 4c 46. Holds these four bytes.
-    #[error("Invalid Magic Bytes: [{:X}, {:X}, {:X}, {:X}]", .0[0], .0[1], .0[2], .0[3])]
     BadMagic([u8; 4]),
     /// The class byte is neither 1 nor 2.
-    #[error("Unsupported ELF Class: {0}")]
     UnsupportedElfClass(u8),
     /// The type of byte orders has no order for this order byte.
-    #[error("Unsupported ELF Endianness: {0}")]
     UnsupportedElfEndianness(u8),
     /// The version of the identification, of a `VerDef` or of a `VerNeed` is not 1: (found, 1).
-    #[error("Unsupported ELF Version field found: {} expected: {}", .0.0, .0.1)]
     UnsupportedVersion((u64, u64)),
     /// An index or an offset that lies past the end of its table; the index of a section header that does not
     /// exist; or, from an `ElfStream`, the end of a range that lies past the end of the source.
-    #[error("Bad offset: {0:#X}")]
     BadOffset(u64),
     /// No 0 byte ends the string at this offset, in bytes.
-    #[error("Could not find terminating NUL byte starting at offset: {0:#X}")]
     StringTableMissingNul(u64),
     /// An entry size in a header is not the size of the record, in bytes: (found, expected).
-    #[error("Invalid entsize. Expected: {:#X}, Found: {:#X}", .0.1, .0.0)]
     BadEntsize((u64, u64)),
     /// A section header has another type than the method reads: (found, expected).
-    #[error("Could not interpret section of type {} as type {}", .0.0, .0.1)]
     UnexpectedSectionType((u32, u32)),
     /// A program header has another type than the method reads: (found, expected).
-    #[error("Could not interpret section of type {} as type {}", .0.0, .0.1)]
     UnexpectedSegmentType((u32, u32)),
     /// Never returned; the Rust crate has it. An iterator over notes with an unusable alignment ends instead.
-    #[error("Could not interpret section with unexpected alignment of {0}")]
     UnexpectedAlignment(usize),
     /// The bytes from start to end, end not included, do not lie in the data.
-    #[error("Could not read bytes in range [{:#X}, {:#X})", .0.0, .0.1)]
     SliceReadError((usize, usize)),
     /// An offset, a size or an end does not fit 64 bits. Also returned by a look-up in a GNU hash section that
     /// needs the second bloom bit, if the shift is 32 or more.
-    #[error("Integer overflow detected")]
     IntegerOverflow,
     /// Bytes that were requested as text are not UTF-8.
-    #[error(transparent)]
     Utf8Error(std::str::Utf8Error),
     /// Never returned; the Rust crate has it.
-    #[error(transparent)]
     TryFromSliceError(std::array::TryFromSliceError),
     /// Never returned; the Rust crate has it.
-    #[error(transparent)]
     TryFromIntError(std::num::TryFromIntError),
     /// The source of an `ElfStream` failed.
-    #[error(transparent)]
     IOError(std::io::Error),
     /// An allocation failed: in a call of an `ElfStream`, or in a function that converts its `AllocError`.
-    #[error("Out of memory")]
     OutOfMemory,
+}
+
+impl fmt::Display for ParseError {
+    ghost use Rattle.elf_records.specs.Texts.{error_text};
+
+    ghost output = { error_text };
+
+    fn fmt<W: fmt::Write>(&self, f: &mut fmt::Formatter<W>) -> fmt::Result {
+        match self {
+            ParseError::BadMagic([a, b, c, d]) => {
+                write!(f, "Invalid Magic Bytes: [{a:X}, {b:X}, {c:X}, {d:X}]")
+            }
+            ParseError::UnsupportedElfClass(class) => write!(f, "Unsupported ELF Class: {class}"),
+            ParseError::UnsupportedElfEndianness(order) => {
+                write!(f, "Unsupported ELF Endianness: {order}")
+            }
+            ParseError::UnsupportedVersion((found, expected)) => {
+                write!(
+                    f,
+                    "Unsupported ELF Version field found: {found} expected: {expected}"
+                )
+            }
+            ParseError::BadOffset(offset) => write!(f, "Bad offset: 0x{offset:X}"),
+            ParseError::StringTableMissingNul(offset) => {
+                write!(
+                    f,
+                    "Could not find terminating NUL byte starting at offset: 0x{offset:X}"
+                )
+            }
+            ParseError::BadEntsize((found, expected)) => {
+                write!(
+                    f,
+                    "Invalid entsize. Expected: 0x{expected:X}, Found: 0x{found:X}"
+                )
+            }
+            ParseError::UnexpectedSectionType((found, expected))
+            | ParseError::UnexpectedSegmentType((found, expected)) => {
+                write!(
+                    f,
+                    "Could not interpret section of type {found} as type {expected}"
+                )
+            }
+            ParseError::UnexpectedAlignment(alignment) => {
+                write!(
+                    f,
+                    "Could not interpret section with unexpected alignment of {alignment}"
+                )
+            }
+            ParseError::SliceReadError((start, end)) => {
+                write!(f, "Could not read bytes in range [0x{start:X}, 0x{end:X})")
+            }
+            ParseError::IntegerOverflow => f.write_str("Integer overflow detected"),
+            ParseError::Utf8Error(error) => write!(f, "{error}"),
+            ParseError::TryFromSliceError(error) => write!(f, "{error}"),
+            ParseError::TryFromIntError(error) => write!(f, "{error}"),
+            ParseError::IOError(error) => write!(f, "{error}"),
+            ParseError::OutOfMemory => f.write_str("Out of memory"),
+        }
+    }
 }
 
 impl From<std::str::Utf8Error> for ParseError {

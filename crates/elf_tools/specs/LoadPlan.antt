@@ -1,10 +1,12 @@
 -- What a loader maps where, and when that is a plan (gABI, chapter "Program Header").
 use Rattle.std.specs.Prelude.{◌≡◌, ℕ, ◌+◌, ◌^◌, ◌<◌, ◌==◌, ◌&&◌, nat_le, nat_lt, min, max, Bool}
-use Rattle.std.specs.Prelude.{true, false, List, length, map, filter, take, slice_get, IfSome}
+use Rattle.std.specs.Prelude.{true, false, List, length, map, filter, take, slice_get, IfSome, Option, codes}
+use Rattle.std.specs.Fmt.{◌++?◌}
 use Rattle.std.specs.List.{list_any}
 use Rattle.std.specs.Option.{IsSomeAnd}
 use Rattle.elf_abi.specs.Values.{pt_load}
 use Rattle.elf_records.specs.Class.{address_bits}
+use Rattle.elf_records.specs.Texts.{number, words}
 use Rattle.elf_records.specs.declared.file.Class.{Class}
 use Rattle.elf_records.specs.declared.segment.ProgramHeader.{ProgramHeader}
 use Rattle.elf_tools.specs.declared.load_plan.Mapping.{Mapping}
@@ -84,3 +86,14 @@ IsTrueOfPlan class count all (AddressSpace k) =
     (fits m ≡ true) × (lies_in count m ≡ true) × (is_addressed class m ≡ false)) k
 IsTrueOfPlan class count all (Overlap k) = LoadableBefore class count all (length all) × IsFirstOverlap all k
 IsTrueOfPlan class count all Memory = Unit {0}
+
+-- ---- the texts of errors
+
+abbrev pub error_text : PlanError → Option (List ℕ)
+error_text (FileSize k) =
+    words (codes "mapping ") ++? number k ++? words (codes " has more bytes in the file than in memory")
+error_text (OutsideFile k) =
+    words (codes "the bytes of mapping ") ++? number k ++? words (codes " do not lie in the file")
+error_text (AddressSpace k) = words (codes "mapping ") ++? number k ++? words (codes " ends past the last address")
+error_text (Overlap k) = words (codes "mapping ") ++? number k ++? words (codes " overlaps an earlier one")
+error_text Memory = words (codes "out of memory")

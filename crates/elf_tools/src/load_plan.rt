@@ -14,6 +14,7 @@ use elf::reader::Reader;
 use elf::segment::ProgramHeader;
 use std::alloc::{AllocError, Global};
 use std::collections::BTreeMap;
+use std::fmt;
 use thiserror::Error;
 
 /// Bytes of the file that are mapped into memory from an address on; the rest of the memory is 0. Offsets and sizes are
@@ -31,20 +32,42 @@ pub struct Mapping {
 #[derive(Debug, Drop, Error)]
 pub enum PlanError {
     /// The mapping has more bytes in the file than in memory.
-    #[error("mapping {mapping} has more bytes in the file than in memory")]
     FileSize { mapping: usize },
     /// The bytes of the mapping do not lie in the file.
-    #[error("the bytes of mapping {mapping} do not lie in the file")]
     OutsideFile { mapping: usize },
     /// The mapping ends past the last address of the file's class.
-    #[error("mapping {mapping} ends past the last address")]
     AddressSpace { mapping: usize },
     /// An address of the mapping also belongs to an earlier one.
-    #[error("mapping {mapping} overlaps an earlier one")]
     Overlap { mapping: usize },
     /// An allocation failed.
-    #[error("out of memory")]
     Memory,
+}
+
+impl fmt::Display for PlanError {
+    ghost use Rattle.elf_tools.specs.LoadPlan.{error_text};
+
+    ghost output = { error_text };
+
+    fn fmt<W: fmt::Write>(&self, f: &mut fmt::Formatter<W>) -> fmt::Result {
+        match self {
+            PlanError::FileSize { mapping } => {
+                write!(
+                    f,
+                    "mapping {mapping} has more bytes in the file than in memory"
+                )
+            }
+            PlanError::OutsideFile { mapping } => {
+                write!(f, "the bytes of mapping {mapping} do not lie in the file")
+            }
+            PlanError::AddressSpace { mapping } => {
+                write!(f, "mapping {mapping} ends past the last address")
+            }
+            PlanError::Overlap { mapping } => {
+                write!(f, "mapping {mapping} overlaps an earlier one")
+            }
+            PlanError::Memory => f.write_str("out of memory"),
+        }
+    }
 }
 
 impl From<AllocError> for PlanError {

@@ -1,9 +1,9 @@
 //! Lists for people what an ELF file holds: the program around `nugwier_commands::run`.
 #![tactic(auto)]
 
+use elf_libraries::system::SystemFiles;
 use nugwier_commands::run::run;
-use nugwier_files::system::SystemFiles;
-use nugwier_writing::escape::Escaped;
+use nugwier_layouts::escape::Escaped;
 use std::alloc::{AllocError, Global};
 use std::env::{Env, FillError};
 use std::io;

@@ -1,7 +1,7 @@
 //! Rows of the file `calls`: functions of `nugwier_programs` whose answers no listing shows by themselves.
 use elf::file::Class;
-use nugwier_programs::patterns::{is_match, is_pattern};
-use nugwier_programs::processor::{has_levels, level_if};
+use elf_libraries::patterns::{is_match, is_pattern};
+use elf_libraries::processor::{has_levels, level_if};
 use std::alloc::{AllocError, Global};
 use std::io::Write;
 use std::{fs, io};

@@ -13,12 +13,12 @@ mod changes;
 mod source;
 
 use changes::change;
+use elf_libraries::files::Files;
+use elf_libraries::folder::Entry;
+use elf_libraries::opening::Opening;
+use elf_libraries::system::SystemFiles;
 use elf_libraries::tree::{Identity, Libraries};
 use nugwier_commands::run::run;
-use nugwier_files::files::Files;
-use nugwier_files::folder::Entry;
-use nugwier_files::opening::Opening;
-use nugwier_files::system::SystemFiles;
 use source::{CaseSource, broken, failing_read};
 use std::alloc::AllocError;
 use std::io::Write;

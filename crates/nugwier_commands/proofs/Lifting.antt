@@ -3,20 +3,20 @@ use Rattle.std.proofs.Common.{◌≡◌, ℕ, List, [], ◌∷◌, ◌++◌, Boo
 use Rattle.elf_records.specs.declared.file.Class.{Class}
 use Rattle.elf_records.specs.declared.section.SectionHeader.{SectionHeader}
 use Rattle.nugwier_commands.specs.Run.{IsOne, Listing, heading_said, listing_of}
-use Rattle.nugwier_commands.specs.inner.Loading.{AreTold, IsTried, lines_of}
+use Rattle.nugwier_commands.specs.inner.Loading.{AreTold, IsTried}
 use Rattle.nugwier_report.specs.Labels.{Named}
-use Rattle.nugwier_commands.specs.inner.Sheets.{sheet_one, sheet_told}
+use Rattle.nugwier_report.specs.Sheets.{sheet_one, sheet_told}
 use Rattle.nugwier_report.specs.Noted.{page_view}
 use Rattle.nugwier_report.specs.Said.{Line, Page, Said, on_page, saying}
-use Rattle.nugwier_commands.specs.declared.sheet.Sheet.{Sheet}
-use Rattle.nugwier_writing.specs.declared.kind.Kind.{Kind}
+use Rattle.nugwier_report.specs.declared.run.Sheet.{Sheet}
+use Rattle.nugwier_commands.specs.declared.target.Heading.{Heading}
 
 -- what is so of the one listing that was told
-pub from_one : (heading : Option Kind) (path : List ℕ) (Says : Named → List Said → Type 0) (All : List Listing → Type 0)
+pub from_one : (heading : Option Heading) (path : List ℕ) (Says : Named → List Said → Type 0) (All : List Listing → Type 0)
     → ((named : Named) (said : List Said) → Says named said → All (listing_of heading path named said ∷ [])) → (all : List Listing) → IsOne heading path Says all → All all
 from_one heading path Says All lift all (named, said, is, same) = subst All (sym same) (lift named said is)
 
-pub one_of : (heading : Option Kind) (path : List ℕ) (Says Others : Named → List Said → Type 0)
+pub one_of : (heading : Option Heading) (path : List ℕ) (Says Others : Named → List Said → Type 0)
     → ((named : Named) (said : List Said) → Says named said → Others named said) → (all : List Listing) → IsOne heading path Says all → IsOne heading path Others all
 one_of heading path Says Others lift all (named, said, is, same) = (named, said, lift named said is, same)
 
@@ -29,7 +29,7 @@ named_same n class sections names is are known =
 
 module _ {R : Type 0} (one : R → Line → R) where
   -- one listing on its page
-  pub told_on : (heading : Option Kind) (path : List ℕ) (Says : Named → List Said → Type 0) (named : Named) (said : List Said) (before after : R) → Says named said
+  pub told_on : (heading : Option Heading) (path : List ℕ) (Says : Named → List Said → Type 0) (named : Named) (said : List Said) (before after : R) → Says named said
       → after ≡ saying one before (on_page (record { path = path; named = named }) (heading_said heading path ++ said)) → AreTold one (IsOne heading path Says) before after
   told_on heading path Says named said before after is more = (
     listing_of heading path named said ∷ [],
@@ -68,7 +68,7 @@ module _ {R : Type 0} (one : R → Line → R) where
   none_before (Err e) before between after All was not same told = tt
 
   -- on a page of the report
-  pub told_page : (heading : Option Kind) (path : List ℕ) (Says : Named → List Said → Type 0) (named : Named) (said : List Said) (sheet now : Sheet R) → Says named said
+  pub told_page : (heading : Option Heading) (path : List ℕ) (Says : Named → List Said → Type 0) (named : Named) (said : List Said) (sheet now : Sheet R) → Says named said
       → page_view sheet.page.now ≡ record { path = path; named = named } → now ≡ saying (sheet_one one) sheet (heading_said heading path ++ said)
       → AreTold one (IsOne heading path Says) sheet.run.now now.run.now
   told_page heading path Says named said sheet now is page more =
@@ -77,7 +77,7 @@ module _ {R : Type 0} (one : R → Line → R) where
       (ap (λ (l : Sheet R). l.run.now) more ∙ ap (λ (l : Sheet R). l.run.now) (sheet_told one sheet all) ∙ ap (λ (p : Page). saying one sheet.run.now (on_page p all)) page)
 
   -- the same, if it was told, of the run that the page gives back: the page still holds it
-  pub told_under : {X E : Type 0} (r : Result X E) (heading : Option Kind) (path : List ℕ) (Says : Named → List Said → Type 0) (Of : List Said → Type 0) (named : Named) (sheet last : Sheet R) (after : R)
+  pub told_under : {X E : Type 0} (r : Result X E) (heading : Option Heading) (path : List ℕ) (Says : Named → List Said → Type 0) (Of : List Said → Type 0) (named : Named) (sheet last : Sheet R) (after : R)
       → page_view sheet.page.now ≡ record { path = path; named = named } → ((said : List Said) → Of said → Says named said)
       → OnOk r ((said : List Said) × Of said × (last ≡ saying (sheet_one one) sheet (heading_said heading path ++ said)))
       → (sheet.run.ghost_name ≡ last.run.ghost_name → after ≡ last.run.now) → OnOk r (AreTold one (IsOne heading path Says) sheet.run.now after)

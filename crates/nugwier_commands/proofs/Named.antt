@@ -1,5 +1,5 @@
 -- What is said of a program that is opened by its names is what is said of its bytes.
-use Rattle.std.proofs.Common.{◌≡◌, ℕ, List as ListOf, Result, Ok, Err, Option, Some, None, IfSome, inr, sym, subst, ap, ◌∙◌}
+use Rattle.std.proofs.Common.{◌≡◌, ℕ, List as ListOf, Result, Ok, Err, Option, Some, None, IfSome, inr, sym, subst}
 use Rattle.elf_records.specs.Number.{ok_map}
 use Rattle.elf_records.specs.declared.endian.AnyEndian.{AnyEndian}
 use Rattle.elf_records.specs.declared.parse.ParseError.{ParseError}
@@ -7,15 +7,15 @@ use Rattle.elf_reading.specs.Opening.{FileView}
 use Rattle.elf_libraries.specs.Tree.{Found, file_of, found_in, linked_file, without_bytes}
 use Rattle.nugwier_commands.specs.Run.{IsFoundSaid, IsProgramSaid, IsSaidAt, Known, search_of}
 use Rattle.nugwier_commands.specs.inner.Loading.{IsNamed, IsNamedProgramSaid}
-use Rattle.nugwier_files.specs.Folder.{KnownFiles}
+use Rattle.elf_libraries.specs.Folder.{KnownFiles}
 use Rattle.nugwier_programs.specs.Bindings.{IsBindingsSaid, IsBoundSaid}
 use Rattle.nugwier_programs.specs.Tree.{IsNamedSaid, IsTreeSaid}
 use Rattle.nugwier_report.specs.Labels.{Named}
 use Rattle.nugwier_report.specs.Said.{Said}
-use Rattle.nugwier_words.specs.Words.{Task}
-use Rattle.nugwier_words.specs.declared.words.Command.{Command}
-use Rattle.nugwier_words.specs.declared.words.Command.TheVariants.{Address, Bindings, BuildId, Check, Exports, Harden, List, Needed}
-use Rattle.nugwier_words.specs.declared.words.Command.TheVariants.{Plan, Symbols, Tree}
+use Rattle.nugwier_commands.specs.Words.{Task}
+use Rattle.nugwier_commands.specs.declared.words.Command.{Command}
+use Rattle.nugwier_commands.specs.declared.words.Command.TheVariants.{Address, Bindings, BuildId, Check, Exports, Harden, List, Needed}
+use Rattle.nugwier_commands.specs.declared.words.Command.TheVariants.{Plan, Symbols, Tree}
 
 -- the file at the path has these bytes
 module _ (files : KnownFiles) (task : Task) (path bytes : ListOf ℕ) (program : Found) (named : Named) (said : ListOf Said)

@@ -3,9 +3,9 @@ use Rattle.std.proofs.Common.{◌≡◌, ℕ, List, sym, subst}
 use Rattle.nugwier_commands.specs.Run.{IsContentSaid, IsProgramSaid, Known}
 use Rattle.nugwier_report.specs.Labels.{Named}
 use Rattle.nugwier_report.specs.Said.{Said}
-use Rattle.nugwier_words.specs.Words.{Task}
-use Rattle.nugwier_words.specs.declared.words.Command.{Command}
-use Rattle.nugwier_words.specs.declared.words.Command.TheVariants.{Bindings, Tree}
+use Rattle.nugwier_commands.specs.Words.{Task}
+use Rattle.nugwier_commands.specs.declared.words.Command.{Command}
+use Rattle.nugwier_commands.specs.declared.words.Command.TheVariants.{Bindings, Tree}
 
 module _ (known : Known) (task : Task) (path bytes : List ℕ) (named : Named) (said : List Said) where
   pub tree_content : (command : Command) → command ≡ Tree → IsProgramSaid known command task path bytes named said → IsContentSaid known command task path bytes named said

@@ -1,5 +1,5 @@
 -- What a report wrote, from its beginning to its end.
-use Rattle.std.proofs.Common.{◌≡◌, ◌∙◌, ◌&&◌, ℕ, Bool, false, List, [], ◌∷◌, ◌++◌, map, ap, refl, subst, sym, append_assoc, Option, Result, Ok, Err, OnOk, IfOk}
+use Rattle.std.proofs.Common.{◌≡◌, ◌∙◌, ◌&&◌, ℕ, Bool, false, List, [], ◌∷◌, ◌++◌, ap, refl, subst, sym, append_assoc, Option, Result, Ok, Err, OnOk, IfOk}
 use Rattle.std.proofs.KnownBytes.{Appends-kept}
 use Rattle.std.specs.Io.KnownBytes.{Appends, Keeps}
 use Rattle.std.specs.Result.{IsOk}
@@ -8,10 +8,10 @@ use Rattle.std.specs.List.{list_all}
 use Rattle.nugwier_commands.specs.Run.{AreListingTexts, AreSaidBy, AreWritten, IsRun, IsTaskAnswered, Known, Listing}
 use Rattle.nugwier_commands.specs.declared.run.Outcome.{Outcome}
 use Rattle.nugwier_commands.specs.inner.Loading.{AreTold, IsOutcomeOf, lines_of}
-use Rattle.nugwier_files.specs.Below.{known_below}
+use Rattle.elf_libraries.specs.Below.{known_below}
 use Rattle.nugwier_report.specs.declared.problem.Stop.{Stop}
-use Rattle.nugwier_words.specs.Words.{Task, run}
-use Rattle.nugwier_report.specs.Said.{Line, Page, Reporting, Said, all_right, also_said, is_right_line, on_page, saying}
+use Rattle.nugwier_commands.specs.Words.{Task, run}
+use Rattle.nugwier_report.specs.Said.{Page, Reporting, Said, all_right, also_said, is_right_line, on_page, saying}
 use Rattle.nugwier_report.specs.Texts.{AreAppended, AreTexts, Written}
 use Rattle.nugwier_report.specs.Told.{AreLines, AreTextsOfLine}
 use Rattle.nugwier_report.specs.declared.report.Format.{Format}

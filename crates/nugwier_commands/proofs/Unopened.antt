@@ -9,26 +9,26 @@ use Rattle.nugwier_commands.specs.declared.target.LostHeaders.{LostHeaders}
 use Rattle.nugwier_commands.specs.inner.Loading.{AreTold, IsSaidAfter}
 use Rattle.nugwier_report.specs.Labels.{Named}
 use Rattle.nugwier_report.specs.Said.{Line, Said}
-use Rattle.nugwier_taking.specs.Whole.{headers_view, memory_file}
-use Rattle.nugwier_taking.specs.declared.in_memory.FileInMemory.{FileInMemory}
-use Rattle.nugwier_report.specs.declared.problem.Fault.TheVariants.{Read}
-use Rattle.nugwier_words.specs.Words.{Task}
-use Rattle.nugwier_words.specs.declared.words.Command.{Command}
-use Rattle.nugwier_words.specs.declared.words.Command.TheVariants.{Check}
-use Rattle.nugwier_writing.specs.declared.kind.Kind.{Kind}
+use Rattle.nugwier_report.specs.Whole.{headers_view, memory_file}
+use Rattle.nugwier_report.specs.declared.in_memory.FileInMemory.{FileInMemory}
+use Rattle.elf_records.specs.Texts.{error_text}
+use Rattle.nugwier_commands.specs.Words.{Task}
+use Rattle.nugwier_commands.specs.declared.words.Command.{Command}
+use Rattle.nugwier_commands.specs.declared.words.Command.TheVariants.{Check}
+use Rattle.nugwier_commands.specs.declared.target.Heading.{Heading}
 
 module _ (task : Task) (path bytes : List ℕ) (error : ParseError) (named : Named) (said : List Said) where
   -- if it is checked
-  pub checked_said : (command : Command) (viewed : Result (FileView AnyEndian) ParseError) → command ≡ Check → IsProblemSaid (Read error) named said
+  pub checked_said : (command : Command) (viewed : Result (FileView AnyEndian) ParseError) → command ≡ Check → IsProblemSaid (error_text error) named said
       → IsUnopenedSaid command task path bytes error viewed named said
   checked_said command viewed is h = subst (λ (c : Command). IsUnopenedSaid c task path bytes error viewed named said) (sym is) h
 
-  lost_by : (command : Command) (fault : ParseError) → IsProblemSaid (Read error) named said → IsUnopenedSaid command task path bytes error (Err fault) named said
+  lost_by : (command : Command) (fault : ParseError) → IsProblemSaid (error_text error) named said → IsUnopenedSaid command task path bytes error (Err fault) named said
   lost_by Check fault h = h
   lost_by other fault h = h
 
   -- if its segments cannot be read
-  pub lost_said : (command : Command) (fault : ParseError) (viewed : Result (FileView AnyEndian) ParseError) → Err fault ≡ viewed → IsProblemSaid (Read error) named said
+  pub lost_said : (command : Command) (fault : ParseError) (viewed : Result (FileView AnyEndian) ParseError) → Err fault ≡ viewed → IsProblemSaid (error_text error) named said
       → IsUnopenedSaid command task path bytes error viewed named said
   lost_said command fault viewed is h = subst (λ (v : Result (FileView AnyEndian) ParseError). IsUnopenedSaid command task path bytes error v named said) is (lost_by command fault h)
 
@@ -40,7 +40,7 @@ opened_said task path bytes named said view opened is h =
     (subst (λ (s : List Said). IsViewSaid task path bytes view named s) (sym h.2) h.1)
 
 -- what was told of a file in memory was told of the file that was opened over its bytes
-pub memory_told : {E R X F : Type 0} (little : E → Bool) (of_byte : ℕ → Option E) (one : R → Line → R) (task : Task) (heading : Option Kind) (path : List ℕ) (lost : Option LostHeaders) (made : FileInMemory E)
+pub memory_told : {E R X F : Type 0} (little : E → Bool) (of_byte : ℕ → Option E) (one : R → Line → R) (task : Task) (heading : Option Heading) (path : List ℕ) (lost : Option LostHeaders) (made : FileInMemory E)
     (headers : StreamHeaders E) (bytes : List ℕ) (r : Result X F) (before after : R) → headers_view made ≡ headers → made.bytes.now ≡ bytes
     → OnOk r (AreTold one (IsOne heading path (IsSaidAfter lost (IsFileSaid little of_byte task path made.ehdr (memory_file little made)))) before after)
     → OnOk r (AreTold one (IsOne heading path (IsSaidAfter lost (IsFileSaid little of_byte task path headers.ehdr (listed_file little headers bytes)))) before after)

@@ -7,9 +7,9 @@ use Rattle.std.specs.Cmp.Lexicographic.{slice_cmp}
 use Rattle.std.specs.List.Sorted.{IsPermutation, IsSortedByKey}
 use Rattle.std.specs.Option.{option_map}
 use Rattle.std.specs.Ordering.{is_lt, nat_cmp}
-use Rattle.nugwier_files.specs.Folder.{KnownFiles, Place, place_of}
-use Rattle.nugwier_files.specs.declared.folder.Entry.{Entry}
-use Rattle.nugwier_programs.proofs.Configuring.{both, sorted_mapped}
+use Rattle.elf_libraries.specs.Folder.{KnownFiles, Place, place_of}
+use Rattle.elf_libraries.specs.declared.folder.Entry.{Entry}
+use Rattle.elf_libraries.proofs.Configuring.{both, sorted_mapped}
 use Rattle.nugwier_commands.specs.Walk.{AreFound, Found, IsInOrder, IsNextFound, IsStep, found_view}
 use Rattle.nugwier_commands.specs.declared.walk.Found.{Found as FoundFile}
 

@@ -3,13 +3,13 @@ use Rattle.std.specs.Prelude.{◌≡◌, ℕ, ◌+◌, ◌==◌, nat_lt, Bool, t
 use Rattle.std.specs.Prelude.{Option, Some, None, Result, Ok, Err, IfSome, codes, is_some}
 use Rattle.std.specs.Borrow.{Bor}
 use Rattle.std.specs.Io.KnownBytes.{Appends}
-use Rattle.std.specs.Fmt.{digits}
+use Rattle.std.specs.Fmt.{◌++?◌, digits}
 use Rattle.std.specs.List.{list_all}
 use Rattle.std.specs.Path.{path_with_file_name}
 use Rattle.std.specs.Str.{bytes_eq, is_utf8}
-use Rattle.std.specs.declared.io.Error.{Error}
 use Rattle.elf_archive.specs.Archive.{File_in, Item, error_text, members_in, thinness}
 use Rattle.elf_archive.specs.declared.archive.ArchiveError.{ArchiveError}
+use Rattle.elf_records.specs.Texts.{digits_of, error_text as read_text, words}
 use Rattle.elf_records.specs.Endian.{any_is_little, any_of_byte}
 use Rattle.elf_records.specs.declared.endian.AnyEndian.{AnyEndian}
 use Rattle.elf_records.specs.declared.file.FileHeader.{FileHeader}
@@ -18,50 +18,56 @@ use Rattle.elf_records.specs.declared.parse.ParseError.TheVariants.{SliceReadErr
 use Rattle.elf_reading.specs.Opening.{FileView, headers_of, opened_by_segments, opened_file}
 use Rattle.elf.specs.StreamFile.{listed_file}
 use Rattle.elf_libraries.specs.Tree.{file_of}
-use Rattle.nugwier_listing.specs.Job.{IsSaidOf}
+use Rattle.nugwier_commands.specs.Job.{IsSaidOf}
 use Rattle.nugwier_programs.specs.Bindings.{IsBindingsSaid}
-use Rattle.nugwier_files.specs.Below.{known_below}
-use Rattle.nugwier_files.specs.Folder.{KnownFiles, Place}
+use Rattle.elf_libraries.specs.Below.{known_below}
+use Rattle.elf_libraries.specs.Folder.{KnownFiles, Place}
 use Rattle.nugwier_programs.specs.Tree.{IsTreeSaid, Search}
 use Rattle.elf.specs.ObjectFile.{ObjectFile}
-use Rattle.nugwier_listing.specs.Labels.{names_told}
-use Rattle.nugwier_report.specs.Formats.{front, is_elf, not_elf}
+use Rattle.nugwier_commands.specs.Labels.{names_told}
+use Rattle.nugwier_commands.specs.Formats.{front, is_elf, not_elf, not_elf_text}
 use Rattle.nugwier_report.specs.Labels.{Named, no_sections}
-use Rattle.nugwier_writing.specs.Members.{text}
-use Rattle.nugwier_report.specs.Said.{Said, all_right, said_if, states, whole, wrong}
+use Rattle.nugwier_layouts.specs.Members.{text}
+use Rattle.nugwier_report.specs.Said.{Said, all_right, said_if, states, warns, whole}
 use Rattle.nugwier_commands.specs.Walk.{AreFound, Found, file as file_at, named as place_named, unread}
 use Rattle.nugwier_commands.specs.declared.run.Outcome.{Outcome}
 use Rattle.nugwier_commands.specs.declared.run.Outcome.TheVariants.{Done, Stopped, Wrong}
 use Rattle.nugwier_report.specs.Texts.{AreAppended, AreTexts, Written}
 use Rattle.nugwier_report.specs.Told.{AreLines}
-use Rattle.nugwier_writing.specs.declared.kind.Kind.{Kind}
-use Rattle.nugwier_writing.specs.declared.kind.Kind.TheVariants.{FileHeading, NextFileHeading}
-use Rattle.nugwier_report.specs.declared.problem.Fault.TheVariants.{OtherFormat, PastEnd, Read, System}
-use Rattle.nugwier_report.specs.declared.problem.Fault.{Fault}
 use Rattle.nugwier_report.specs.declared.problem.Part.TheVariants.{File, SectionHeaders}
 use Rattle.nugwier_report.specs.declared.report.Format.{Format}
 use Rattle.nugwier_report.specs.declared.report.Summary.{Summary}
-use Rattle.nugwier_words.specs.Help.{help_of}
-use Rattle.nugwier_words.specs.WordTexts.{word_text}
-use Rattle.nugwier_words.specs.Words.{Answer, Task, help, run, version}
-use Rattle.nugwier_words.specs.declared.help.TheConstants.{VERSION}
-use Rattle.nugwier_words.specs.declared.words.Command.{Command}
-use Rattle.nugwier_words.specs.declared.words.Command.TheVariants.{Bindings, Check, Harden, Tree}
-use Rattle.nugwier_words.specs.declared.words.WordError.{WordError}
+use Rattle.nugwier_commands.specs.Help.{help_of}
+use Rattle.nugwier_commands.specs.WordTexts.{word_text}
+use Rattle.nugwier_commands.specs.Words.{Answer, Task, help, run, version}
+use Rattle.nugwier_commands.specs.declared.help.TheConstants.{VERSION}
+use Rattle.nugwier_commands.specs.declared.words.Command.{Command}
+use Rattle.nugwier_commands.specs.declared.words.Command.TheVariants.{Bindings, Check, Harden, Tree}
+use Rattle.nugwier_commands.specs.declared.words.WordError.{WordError}
+use Rattle.nugwier_commands.specs.declared.target.Heading.{Heading}
+use Rattle.nugwier_commands.specs.declared.target.Heading.TheVariants.{First, Next}
+use Rattle.nugwier_layouts.specs.Layouts.{Layout, constant}
+use Rattle.nugwier_layouts.specs.declared.layouts.TheConstants as layout
 
 -- ---- one file
 
+-- the path, after an empty line below another file
+abbrev pub heading_layout : Heading → Layout
+heading_layout First = constant layout.FILE_HEADING
+heading_layout Next = constant layout.NEXT_FILE_HEADING
+
 -- the path above what is said of a file, if there is a heading
-abbrev pub heading_said : Option Kind → List ℕ → List Said
-heading_said heading path = said_if (λ kind. states kind ((codes "path", text (Some path)) ∷ []) ∷ []) heading
+abbrev pub heading_said : Option Heading → List ℕ → List Said
+heading_said heading path =
+    said_if (λ above. states (heading_layout above) ((codes "path", text (Some path)) ∷ []) ∷ []) heading
 
 -- the sections with which problems of a file are told
 abbrev pub named_of : Task → ObjectFile → Named
 named_of task file = record { class = file.class; sections = file.sections; names = names_told task file }
 
--- that the file as a whole is wrong
-abbrev pub IsProblemSaid : Fault → Named → List Said → Type 0
-IsProblemSaid fault named said = (named ≡ no_sections) × (said ≡ wrong (whole File) fault ∷ [])
+-- that the file as a whole is wrong, with this text. That of an error of the system is not stated
+abbrev pub IsProblemSaid : Option (List ℕ) → Named → List Said → Type 0
+IsProblemSaid fault named said = (named ≡ no_sections) × (said ≡ warns (whole File) fault ∷ [])
 
 -- of a file with this header, and the sections with which its problems are told
 abbrev pub IsFileSaid : {E : Type 0} → (E → Bool) → (ℕ → Option E) → Task → List ℕ → FileHeader E → ObjectFile → Named →
@@ -75,20 +81,22 @@ IsViewSaid task path bytes v named said =
     IsFileSaid any_is_little any_of_byte task path v.ehdr (listed_file any_is_little (headers_of v) bytes) named said
 
 -- why the section headers of a file with this number of bytes are not read
-abbrev pub lost_fault : ParseError → ℕ → Fault
-lost_fault (SliceReadError range) size = PastEnd range size
-lost_fault error size = Read error
+abbrev pub lost_text : ParseError → ℕ → Option (List ℕ)
+lost_text (SliceReadError range) size =
+    words (codes "not in the file: bytes 0x") ++? digits_of range.0 ++? words (codes " to 0x") ++? digits_of range.1
+    ++? words (codes " of 0x") ++? digits_of size ++? words (codes "; it may be cut short")
+lost_text error size = read_text error
 
 -- Where opening it has this error: that its section headers cannot be read, and what is said of it through its segments;
 -- or, if it does not open by them either, why it is no ELF file. A file that does not open is not sound, so a check says
 -- the same of both.
 abbrev pub IsUnopenedSaid : Command → Task → List ℕ → List ℕ → ParseError → Result (FileView AnyEndian) ParseError →
     Named → List Said → Type 0
-IsUnopenedSaid Check task path bytes e by_segments named said = IsProblemSaid (Read e) named said
+IsUnopenedSaid Check task path bytes e by_segments named said = IsProblemSaid (read_text e) named said
 IsUnopenedSaid other task path bytes e (Ok v) named said =
     (rest : List Said) × IsViewSaid task path bytes v named rest
-    × (said ≡ wrong (whole SectionHeaders) (lost_fault e (length bytes)) ∷ rest)
-IsUnopenedSaid other task path bytes e (Err _) named said = IsProblemSaid (Read e) named said
+    × (said ≡ warns (whole SectionHeaders) (lost_text e (length bytes)) ∷ rest)
+IsUnopenedSaid other task path bytes e (Err _) named said = IsProblemSaid (read_text e) named said
 
 abbrev pub IsOpenedSaid : Task → List ℕ → List ℕ → Result (FileView AnyEndian) ParseError → Named → List Said → Type 0
 IsOpenedSaid task path bytes (Ok v) named said = IsViewSaid task path bytes v named said
@@ -108,11 +116,11 @@ has_headings Check files = false
 has_headings Harden files = false
 has_headings other files = nat_lt 1 (length files)
 
-abbrev pub heading_at : Bool → ℕ → Option Kind
+abbrev pub heading_at : Bool → ℕ → Option Heading
 heading_at false i = None
-heading_at true i = if i == 0 then Some FileHeading else Some NextFileHeading
+heading_at true i = if i == 0 then Some First else Some Next
 
-abbrev pub heading_of : Task → ℕ → Option Kind
+abbrev pub heading_of : Task → ℕ → Option Heading
 heading_of task i = heading_at (has_headings task.command task.files) i
 
 -- what is known of the files, if something is
@@ -151,7 +159,7 @@ IsElfSaid IsSaid bytes named said = IsBegunSaid (is_elf (front bytes)) IsSaid by
 -- by the content of the file, if there is one; else the error of the system
 abbrev pub IsFoundSaid : Saying → Option (List ℕ) → Named → List Said → Type 0
 IsFoundSaid IsSaid (Some bytes) named said = IsSaid bytes named said
-IsFoundSaid IsSaid None named said = (error : Error) × IsProblemSaid (System error) named said
+IsFoundSaid IsSaid None named said = IsProblemSaid None named said
 
 abbrev pub IsSaidAt : Known → Saying → List ℕ → Named → List Said → Type 0
 IsSaidAt known IsSaid path named said = IfSome known (λ files. IsFoundSaid IsSaid (files.contents path) named said)
@@ -165,7 +173,7 @@ pub record Listing : Type 0 where
   pub named : Named
   pub said : List Said
 
-abbrev pub listing_of : Option Kind → List ℕ → Named → List Said → Listing
+abbrev pub listing_of : Option Heading → List ℕ → Named → List Said → Listing
 listing_of heading path named said = record { path = path; named = named; said = heading_said heading path ++ said }
 
 -- the text of what is said, and that of what is wrong
@@ -196,8 +204,8 @@ abbrev pub outside_path : List ℕ → List ℕ → List ℕ
 outside_path path name = path_with_file_name path (file_name name)
 
 -- that a name is not UTF-8, so no file of this name can be read
-abbrev pub no_path : Fault
-no_path = OtherFormat (codes "a path that is not UTF-8")
+abbrev pub no_path : Option (List ℕ)
+no_path = not_elf_text (Some (codes "a path that is not UTF-8"))
 
 abbrev pub IsOutsideSaid : Known → Saying → List ℕ → List ℕ → Bool → Named → List Said → Type 0
 IsOutsideSaid known IsSaid path name true named said = IsSaidAt known IsSaid (outside_path path name) named said
@@ -214,10 +222,10 @@ IsMemberSaid known task path member named said =
     IsHeldSaid known (IsElfSaid (IsBytesSaid task (member_path path member))) path member member.bytes named said
 
 -- that an archive cannot be read on
-abbrev pub broken : ArchiveError → Fault
-broken e = OtherFormat (codes "a broken ar archive: " ++ error_text e)
+abbrev pub broken : ArchiveError → Option (List ℕ)
+broken e = not_elf_text (Some (codes "a broken ar archive: " ++ error_text e))
 
-abbrev pub IsItemSaid : Known → Task → Option Kind → List ℕ → Item → Listing → Type 0
+abbrev pub IsItemSaid : Known → Task → Option Heading → List ℕ → Item → Listing → Type 0
 IsItemSaid known task heading path (Ok member) own =
     (named : Named) × (said : List Said) × IsMemberSaid known task path member named said
     × (own ≡ listing_of heading (member_path path member) named said)
@@ -226,18 +234,18 @@ IsItemSaid known task heading path (Err e) own =
     × (own ≡ listing_of heading path named said)
 
 -- each member has its path above it, except for `check` and `harden`
-abbrev pub first_heading : Command → Option Kind → Option Kind
+abbrev pub first_heading : Command → Option Heading → Option Heading
 first_heading Check heading = None
 first_heading Harden heading = None
-first_heading other (Some kind) = Some kind
-first_heading other None = Some FileHeading
+first_heading other (Some above) = Some above
+first_heading other None = Some First
 
-abbrev pub next_heading : Option Kind → Option Kind
-next_heading (Some kind) = Some NextFileHeading
+abbrev pub next_heading : Option Heading → Option Heading
+next_heading (Some above) = Some Next
 next_heading None = None
 
 -- the members in order, and then why they cannot be read on, if they cannot
-abbrev pub AreItemsSaid : Known → Task → Option Kind → List ℕ → List Item → List Listing → Type 0
+abbrev pub AreItemsSaid : Known → Task → Option Heading → List ℕ → List Item → List Listing → Type 0
 AreItemsSaid known task heading path [] all = all ≡ []
 AreItemsSaid known task heading path (item ∷ items) all =
     (own : Listing) × (rest : List Listing) × IsItemSaid known task heading path item own
@@ -247,7 +255,7 @@ abbrev pub items_of : Result (List Item) ArchiveError → List Item
 items_of (Ok items) = items
 items_of (Err e) = Err e ∷ []
 
-abbrev pub AreMembersSaid : Known → Task → Option Kind → List ℕ → List ℕ → List Listing → Type 0
+abbrev pub AreMembersSaid : Known → Task → Option Heading → List ℕ → List ℕ → List Listing → Type 0
 AreMembersSaid known task heading path bytes all =
     AreItemsSaid known task (first_heading task.command heading) path (items_of (members_in bytes)) all
 
@@ -260,26 +268,26 @@ is_archive other start = is_some (thinness start)
 -- ---- a file of the words
 
 -- one listing, with the path above it
-abbrev pub IsOne : Option Kind → List ℕ → (Named → List Said → Type 0) → List Listing → Type 0
+abbrev pub IsOne : Option Heading → List ℕ → (Named → List Said → Type 0) → List Listing → Type 0
 IsOne heading path Says all =
     (named : Named) × (said : List Said) × Says named said × (all ≡ listing_of heading path named said ∷ [])
 
-abbrev pub AreKindSaid : Known → Task → Option Kind → List ℕ → List ℕ → Bool → List Listing → Type 0
+abbrev pub AreKindSaid : Known → Task → Option Heading → List ℕ → List ℕ → Bool → List Listing → Type 0
 AreKindSaid known task heading path bytes true all = AreMembersSaid known task heading path bytes all
 AreKindSaid known task heading path bytes false all =
     IsOne heading path (IsElfSaid (IsContentSaid known task.command task path) bytes) all
 
 -- what is said of a file with this path and these bytes
-abbrev pub AreBytesSaid : Known → Task → Option Kind → List ℕ → List ℕ → List Listing → Type 0
+abbrev pub AreBytesSaid : Known → Task → Option Heading → List ℕ → List ℕ → List Listing → Type 0
 AreBytesSaid known task heading path bytes all =
     AreKindSaid known task heading path bytes (is_archive task.command (front bytes)) all
 
-abbrev pub AreFoundSaid : Known → Task → Option Kind → List ℕ → Option (List ℕ) → List Listing → Type 0
+abbrev pub AreFoundSaid : Known → Task → Option Heading → List ℕ → Option (List ℕ) → List Listing → Type 0
 AreFoundSaid known task heading path (Some bytes) all = AreBytesSaid known task heading path bytes all
 AreFoundSaid known task heading path None all =
-    IsOne heading path (λ named said. (error : Error) × IsProblemSaid (System error) named said) all
+    IsOne heading path (IsProblemSaid None) all
 
-abbrev pub ArePathSaid : Known → Task → Option Kind → List ℕ → List Listing → Type 0
+abbrev pub ArePathSaid : Known → Task → Option Heading → List ℕ → List Listing → Type 0
 ArePathSaid known task heading path all =
     IfSome known (λ files. AreFoundSaid known task heading path (files.contents path) all)
 
@@ -292,19 +300,19 @@ AreFilesSaid known task i (path ∷ paths) all =
 
 -- ---- files below folders, with -R
 
-abbrev pub IsFoundTold : Known → Task → Option Kind → Found → List Listing → Type 0
+abbrev pub IsFoundTold : Known → Task → Option Heading → Found → List Listing → Type 0
 IsFoundTold known task heading (file_at path) all = ArePathSaid known task heading path all
 IsFoundTold known task heading (unread path) all = AreFoundSaid known task heading path None all
 
 -- in order; each has its path above it, except for `check` and `harden`
-abbrev pub AreAllTold : Known → Task → Option Kind → List Found → List Listing → Type 0
+abbrev pub AreAllTold : Known → Task → Option Heading → List Found → List Listing → Type 0
 AreAllTold known task heading [] all = all ≡ []
 AreAllTold known task heading (found ∷ others) all =
     (own : List Listing) × (rest : List Listing) × IsFoundTold known task heading found own
     × AreAllTold known task (next_heading heading) others rest × (all ≡ own ++ rest)
 
 -- what is said of all that is found from these places on
-abbrev pub ArePlacesSaid : Known → Task → Option Kind → List Place → List Listing → Type 0
+abbrev pub ArePlacesSaid : Known → Task → Option Heading → List Place → List Listing → Type 0
 ArePlacesSaid known task heading places all = IfSome known (λ files.
     (found : List Found) × AreFound files places found × AreAllTold known task heading found all)
 

@@ -9,10 +9,10 @@ use Rattle.std.specs.Path.{path_join}
 use Rattle.nugwier_commands.specs.declared.walk.Found.{Found as FoundFile}
 use Rattle.nugwier_commands.specs.declared.walk.Found.TheVariants as was
 use Rattle.nugwier_commands.specs.declared.walk.Walk.{Walk}
-use Rattle.nugwier_files.specs.Folder.{Folder, KnownFiles, Place, has, none, place_of, unreadable}
-use Rattle.nugwier_files.specs.declared.folder.EntryKind.{EntryKind}
-use Rattle.nugwier_files.specs.declared.folder.EntryKind.TheVariants as kind
-use Rattle.nugwier_report.specs.Formats.{front, is_elf}
+use Rattle.elf_libraries.specs.Folder.{Folder, KnownFiles, Place, has, none, place_of, unreadable}
+use Rattle.elf_libraries.specs.declared.folder.EntryKind.{EntryKind}
+use Rattle.elf_libraries.specs.declared.folder.EntryKind.TheVariants as kind
+use Rattle.nugwier_commands.specs.Formats.{front, is_elf}
 
 -- what is told: the file at a path, or that a folder, or a name in it, cannot be read
 pub data Found : Type 0 where

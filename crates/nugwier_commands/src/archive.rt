@@ -9,17 +9,17 @@ ghost use Rattle.nugwier_commands.specs.Run.{IsOutsideSaid, IsProblemSaid, IsSai
 ghost use Rattle.nugwier_commands.specs.Run.{is_archive, member_path, next_heading};
 ghost use Rattle.nugwier_commands.specs.Run.{outside_path};
 ghost use Rattle.nugwier_commands.specs.inner.Loading.{AreTold, IsOneItem};
-ghost use Rattle.nugwier_words.specs.Words.{task_of};
+ghost use Rattle.nugwier_commands.specs.Words.{task_of};
 
+use crate::formats::NotElf;
 use crate::run::run_slice;
-use crate::target::Target;
+use crate::target::{Heading, Target};
+use crate::words::{Command, Job};
 use elf_archive::archive::{ArchiveError, Member, Members, members_of, thinness};
-use nugwier_files::files::Files;
-use nugwier_report::problem::{Fault, Stop};
+use elf_libraries::files::Files;
+use nugwier_report::problem::Stop;
 use nugwier_report::quoted::Quoted;
 use nugwier_report::run::Run;
-use nugwier_words::words::{Command, Job};
-use nugwier_writing::kind::Kind;
 use std::alloc::{AllocError, Global};
 use std::path::Path;
 use std::str::from_utf8;
@@ -57,22 +57,22 @@ pub(crate) fn run_archive<F: Files, R: Run>(
 }
 
 /// What is above the first file, if something may be above files.
-pub(crate) fn first_heading(command: Command, heading: Option<Kind>) -> Option<Kind>
+pub(crate) fn first_heading(command: Command, heading: Option<Heading>) -> Option<Heading>
     ensures { result ≡ first_heading command heading }
 {
     match (command, heading) {
         (Command::Check | Command::Harden, _) => None,
-        (_, Some(kind)) => Some(kind),
-        (_, None) => Some(Kind::FileHeading),
+        (_, Some(above)) => Some(above),
+        (_, None) => Some(Heading::First),
     }
 }
 
 /// What is above the file after one with this above it.
-pub(crate) fn next_heading(heading: Option<Kind>) -> Option<Kind>
+pub(crate) fn next_heading(heading: Option<Heading>) -> Option<Heading>
     ensures { result ≡ next_heading heading }
 {
     match heading {
-        Some(_) => Some(Kind::NextFileHeading),
+        Some(_) => Some(Heading::Next),
         None => None,
     }
 }
@@ -127,7 +127,8 @@ fn tell_broken<R: Run>(
         (IsProblemSaid (broken error))) run.old run.new) }
 {
     let text = format!(in alloc; "a broken ar archive: {error}")?;
-    target.tell_problem(Fault::OtherFormat(Quoted::new(text.as_bytes())), run)
+    let broken = NotElf(Some(Quoted::new(text.as_bytes())));
+    target.tell_problem(&broken, run)
 }
 
 // Tells of a member what is asked for, with its own path.
@@ -199,7 +200,7 @@ fn run_outside<F: Files, R: Run>(
 {
     let Ok(name) = from_utf8(name) else {
         let name = Quoted::new(b"a path that is not UTF-8");
-        return target.tell_problem(Fault::OtherFormat(name), run);
+        return target.tell_problem(&NotElf(Some(name)), run);
     };
     let path = outside_path(alloc, archive, name)?;
     run_elsewhere(alloc, target, files, path.as_str(), run)

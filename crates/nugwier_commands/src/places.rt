@@ -1,21 +1,20 @@
 //! Folders: each ELF file below them is told as a file that is named.
 #![tactic(auto, using(nugwier_report::proofs::Saying::saying_both))]
 
-ghost use Rattle.std.specs.Prelude.{◌≡◌, None, OnOk, map};
+ghost use Rattle.std.specs.Prelude.{None, OnOk, map};
 ghost use Rattle.nugwier_commands.specs.Run.{ArePlacesSaid, IsFoundTold, first_heading};
 ghost use Rattle.nugwier_commands.specs.Walk.{found_view, named};
 ghost use Rattle.nugwier_commands.specs.inner.Loading.{AreTold};
-ghost use Rattle.nugwier_words.specs.Words.{task_of};
+ghost use Rattle.nugwier_commands.specs.Words.{task_of};
 
 use crate::archive::{first_heading, next_heading};
 use crate::run::run_path;
-use crate::target::Target;
+use crate::target::{Heading, Target};
 use crate::walk::{Found, Walk};
-use nugwier_files::files::Files;
-use nugwier_report::problem::{Fault, Stop};
+use crate::words::Job;
+use elf_libraries::files::Files;
+use nugwier_report::problem::Stop;
 use nugwier_report::run::Run;
-use nugwier_words::words::Job;
-use nugwier_writing::kind::Kind;
 use std::alloc::Global;
 
 /// Tells of the files of the words, and of the ELF files below the folders among them, what is asked for.
@@ -43,7 +42,7 @@ pub(crate) fn run_places<F: Files, R: Run>(
 fn run_found<F: Files, R: Run>(
     alloc: Global,
     job: &Job<'_>,
-    heading: Option<Kind>,
+    heading: Option<Heading>,
     files: &F,
     found: Found,
     run: &mut R,
@@ -66,7 +65,7 @@ fn run_found<F: Files, R: Run>(
                 path: path.as_str(),
                 heading,
             };
-            target.tell_problem(Fault::System(error), run)
+            target.tell_problem(&error, run)
         }
     }
 }

@@ -14,28 +14,27 @@ ghost use Rattle.nugwier_commands.specs.Run.{IsElfSaid, IsFileSaid, IsOne, IsPro
 ghost use Rattle.nugwier_commands.specs.Run.{has_headings, heading_of, status_of};
 ghost use Rattle.nugwier_commands.specs.inner.Loading.{AreTold, IsFrontOf, IsNamed, IsOutcomeOf, IsSaidAfter, IsTried};
 ghost use Rattle.nugwier_commands.specs.inner.Loading.{IsPrintedAs, IsWordsTold};
-ghost use Rattle.nugwier_report.specs.Formats.{front};
+ghost use Rattle.nugwier_commands.specs.Formats.{front};
 ghost use Rattle.nugwier_report.specs.declared.report.Summary.{Summary};
-ghost use Rattle.nugwier_words.specs.Words.{parsed, run as run_answer, task_of};
+ghost use Rattle.nugwier_commands.specs.Words.{parsed, run as run_answer, task_of};
 
 use crate::archive::{is_archive, run_archive};
+use crate::formats::{FRONT, is_elf, not_elf};
+use crate::help::{VERSION, help};
 use crate::loading::tell_source;
 use crate::places::run_places;
-use crate::target::{LostHeaders, Target};
+use crate::target::{Heading, LostHeaders, Target};
+use crate::words::{Command, Job, Request, WordError, parse_words};
 use elf::endian::{AnyEndian, EndianParse};
 use elf::{ElfBytes, ParseError, StreamSource};
+use elf_libraries::below::FilesBelow;
+use elf_libraries::files::Files;
 use elf_libraries::tree::LoadedFile;
 use elf_reading::reads::fetch;
-use nugwier_files::below::FilesBelow;
-use nugwier_files::files::Files;
-use nugwier_report::formats::{FRONT, is_elf, not_elf};
-use nugwier_report::problem::{Fault, Stop};
+use nugwier_report::in_memory::FileInMemory;
+use nugwier_report::problem::Stop;
 use nugwier_report::report::{Report, Summary};
 use nugwier_report::run::Run;
-use nugwier_taking::in_memory::FileInMemory;
-use nugwier_words::help::{VERSION, help};
-use nugwier_words::words::{Command, Job, Request, WordError, parse_words};
-use nugwier_writing::kind::Kind;
 use std::alloc::Global;
 use std::io;
 use std::io::Write;
@@ -237,16 +236,16 @@ fn run_files<F: Files, R: Run>(
 
 // What is above a file, by its place among the files: of several files each has its path above it, except for `check`,
 // whose lines name it.
-fn heading_of(job: &Job<'_>, place: usize) -> Option<Kind>
+fn heading_of(job: &Job<'_>, place: usize) -> Option<Heading>
     ensures { result ≡ heading_of (task_of job.now) place }
 {
     if !has_headings(job) {
         return None;
     }
     Some(if place == 0 {
-        Kind::FileHeading
+        Heading::First
     } else {
-        Kind::NextFileHeading
+        Heading::Next
     })
 }
 
@@ -307,7 +306,7 @@ fn run_front<F: Files, R: Run>(
     } else if is_elf(front) {
         run_elf(alloc, target, files, run)
     } else {
-        target.tell_problem(not_elf(front), run)
+        target.tell_problem(&not_elf(front), run)
     }
 }
 
@@ -361,7 +360,7 @@ fn run_one<F: Files, R: Run>(
     if is_elf(front) {
         run_content(alloc, target, files, data, run)
     } else {
-        target.tell_problem(not_elf(front), run)
+        target.tell_problem(&not_elf(front), run)
     }
 }
 
@@ -489,7 +488,7 @@ pub(crate) fn run_slice<R: Run>(
     if is_elf(front) {
         run_bytes(alloc, target, bytes, run)
     } else {
-        target.tell_problem(not_elf(front), run)
+        target.tell_problem(&not_elf(front), run)
     }
 }
 
@@ -540,7 +539,7 @@ fn run_unopened<R: Run>(
         (opened_by_segments any_is_little any_of_byte bytes.now))) run.old run.new) }
 {
     if matches!(target.job.command, Command::Check) {
-        return target.tell_problem(Fault::Read(error), run);
+        return target.tell_problem(&error, run);
     }
     match ElfBytes::<AnyEndian>::parse_by_segments(bytes) {
         Ok(file) => {
@@ -548,6 +547,6 @@ fn run_unopened<R: Run>(
             let lost = LostHeaders { error, len };
             run_opened(alloc, target, bytes, &file, Some(lost), run)
         }
-        Err(_) => target.tell_problem(Fault::Read(error), run),
+        Err(_) => target.tell_problem(&error, run),
     }
 }

@@ -1,49 +1,67 @@
 //! A file of a command line, and what is told of it on its page.
 #![tactic(auto, using(nugwier_report::proofs::Saying::saying_both))]
 
-ghost use Rattle.std.specs.Prelude.{◌≡◌, ◌∷◌, ◌++◌, ◌≢◌, [], List, OnOk};
+ghost use Rattle.std.specs.Prelude.{◌≡◌, ◌∷◌, ◌++◌, ◌≢◌, [], List, None, OnOk};
 ghost use Rattle.std.specs.declared.io.ErrorKind.TheVariants.{OutOfMemory as IsOutOfMemory};
 ghost use Rattle.std.specs.IoError.{error_kind};
 ghost use Rattle.elf_libraries.specs.Tree.{found_view};
-ghost use Rattle.nugwier_commands.specs.Run.{IsFileSaid, IsOne, IsProblemSaid, IsProgramSaid, heading_said, lost_fault};
+ghost use Rattle.nugwier_commands.specs.Run.{IsFileSaid, IsOne, IsProblemSaid, IsProgramSaid, heading_layout, heading_said};
+ghost use Rattle.nugwier_layouts.specs.Layouts.{layout_of};
 ghost use Rattle.nugwier_commands.specs.Run.{search_of};
-ghost use Rattle.nugwier_commands.specs.inner.Sheets.{sheet_one};
+ghost use Rattle.nugwier_report.specs.Sheets.{sheet_one};
 ghost use Rattle.nugwier_commands.specs.inner.Loading.{AreTold, IsNamedProgramSaid, IsSaidAfter, unread_said};
-ghost use Rattle.nugwier_listing.specs.Job.{IsSaidOf};
+ghost use Rattle.nugwier_commands.specs.Job.{IsSaidOf};
 ghost use Rattle.nugwier_programs.specs.Tree.{search_view};
 ghost use Rattle.nugwier_report.specs.Labels.{no_sections};
-ghost use Rattle.nugwier_report.specs.Said.{Said, saying, whole, wrong};
-ghost use Rattle.nugwier_report.specs.declared.problem.Fault.TheVariants.{System};
+ghost use Rattle.nugwier_report.specs.Said.{Said, saying, whole, warns};
 ghost use Rattle.nugwier_report.specs.declared.problem.Part.TheVariants.{File};
-ghost use Rattle.nugwier_taking.specs.Whole.{file_of};
-ghost use Rattle.nugwier_words.specs.Words.{task_of};
+ghost use Rattle.nugwier_report.specs.Whole.{file_of};
+ghost use Rattle.nugwier_commands.specs.Words.{task_of};
 
-use crate::sheet::Sheet;
+use crate::job::tell_job;
+use crate::labels::labels_of;
+use crate::words::{Command, Job};
 use elf::ParseError;
 use elf::endian::EndianParse;
+use elf_libraries::files::Files;
 use elf_libraries::tree::LoadedFile;
-use nugwier_files::files::Files;
-use nugwier_listing::job::tell_job;
-use nugwier_listing::labels::labels_of;
+use nugwier_layouts::json::Value;
+use nugwier_layouts::layouts;
+use nugwier_layouts::layouts::Layout;
 use nugwier_programs::bindings::{tell_bindings, tell_bound};
 use nugwier_programs::tree::{FILE, Search, tell_named, tell_tree};
+use nugwier_report::listed::ListedFile;
 use nugwier_report::names::NO_LABELS;
-use nugwier_report::problem::{Fault, Part, Stop};
-use nugwier_report::run::{Page, Run};
+use nugwier_report::problem::{Part, Stop};
+use nugwier_report::run::{Page, Run, Sheet};
 use nugwier_report::tell::Tell;
-use nugwier_taking::listed::ListedFile;
-use nugwier_words::words::{Command, Job};
-use nugwier_writing::json::Value;
-use nugwier_writing::kind::Kind;
 use std::alloc::Global;
-use std::io;
+use std::{fmt, io};
+
+/// What is above what is told of a file, if several are: its path, after an empty line below another file.
+#[derive(Clone, Copy)]
+pub(crate) enum Heading {
+    First,
+    Next,
+}
+
+impl Heading {
+    fn layout(self) -> &'static Layout
+        ensures { layout_of result.now ≡ heading_layout self }
+    {
+        match self {
+            Heading::First => &layouts::FILE_HEADING,
+            Heading::Next => &layouts::NEXT_FILE_HEADING,
+        }
+    }
+}
 
 /// A file of a command line: what is asked for, its path, and what is written above it, if several files are listed.
 #[derive(Clone, Copy)]
 pub(crate) struct Target<'j> {
     pub job: &'j Job<'j>,
     pub path: &'j str,
-    pub heading: Option<Kind>,
+    pub heading: Option<Heading>,
 }
 
 /// Why the section headers of a file with this number of bytes are not read.
@@ -53,13 +71,21 @@ pub(crate) struct LostHeaders {
     pub len: usize,
 }
 
-impl LostHeaders {
-    fn fault(self) -> Fault<'static>
-        ensures { result ≡ lost_fault self.error self.len }
-    {
-        match self.error {
-            ParseError::SliceReadError(range) => Fault::PastEnd(range, self.len),
-            error => Fault::Read(error),
+impl fmt::Display for LostHeaders {
+    ghost use Rattle.nugwier_commands.specs.Run.{lost_text};
+
+    ghost output = { λ lost. lost_text lost.error lost.len };
+
+    fn fmt<W: fmt::Write>(&self, f: &mut fmt::Formatter<W>) -> fmt::Result {
+        match &self.error {
+            ParseError::SliceReadError((start, end)) => {
+                let len = self.len;
+                write!(
+                    f,
+                    "not in the file: bytes 0x{start:x} to 0x{end:x} of 0x{len:x}; it may be cut short"
+                )
+            }
+            error => write!(f, "{error}"),
         }
     }
 }
@@ -69,7 +95,7 @@ fn tell_lost<T: Tell>(lost: Option<LostHeaders>, tell: &mut T) -> Result<(), Sto
     ensures { OnOk result (tell.new ≡ saying T.one tell.old (unread_said lost)) }
 {
     match lost {
-        Some(lost) => tell.problem(Part::SectionHeaders.whole(), lost.fault()),
+        Some(lost) => tell.problem(Part::SectionHeaders.whole(), &lost),
         None => Ok(()),
     }
 }
@@ -80,9 +106,9 @@ impl<'j> Target<'j> {
         ensures { OnOk result (tell.new ≡ saying T.one tell.old (heading_said self.now.heading self.now.path.now)) }
     {
         match self.heading {
-            Some(kind) => {
+            Some(above) => {
                 let path = Value::Text(Some(self.path.as_bytes()));
-                tell.state(kind, &[("path", path)])
+                tell.state(above.layout(), &[("path", path)])
             }
             None => Ok(()),
         }
@@ -219,9 +245,13 @@ impl<'j> Target<'j> {
     }
 
     /// Tells that the file as a whole is wrong.
-    pub(crate) fn tell_problem<R: Run>(&self, fault: Fault<'_>, run: &mut R) -> Result<(), Stop>
-        ensures { OnOk result (AreTold R.one (IsOne self.now.heading self.now.path.now (IsProblemSaid fault.entry))
-            run.old run.new) }
+    pub(crate) fn tell_problem<D: fmt::Display, R: Run>(
+        &self,
+        fault: &D,
+        run: &mut R,
+    ) -> Result<(), Stop>
+        ensures { OnOk result (AreTold R.one (IsOne self.now.heading self.now.path.now
+            (IsProblemSaid (D.output fault.now))) run.old run.new) }
     {
         let page = Page {
             path: self.path,
@@ -232,9 +262,9 @@ impl<'j> Target<'j> {
     }
 
     // The same on its page.
-    fn tell_wrong<T: Tell>(&self, fault: Fault<'_>, tell: &mut T) -> Result<(), Stop>
+    fn tell_wrong<D: fmt::Display, T: Tell>(&self, fault: &D, tell: &mut T) -> Result<(), Stop>
         ensures { OnOk result (tell.new ≡ saying T.one tell.old
-            (heading_said self.now.heading self.now.path.now ++ wrong (whole File) fault.entry ∷ [])) }
+            (heading_said self.now.heading self.now.path.now ++ warns (whole File) (D.output fault.now) ∷ [])) }
     {
         self.tell_heading(tell)?;
         tell.problem(FILE, fault)
@@ -244,11 +274,11 @@ impl<'j> Target<'j> {
     pub(crate) fn tell_unread<R: Run>(&self, error: io::Error, run: &mut R) -> Result<(), Stop>
         ensures reason { OnOk result (error_kind error ≢ IsOutOfMemory) }
         ensures told { OnOk result (AreTold R.one (IsOne self.now.heading self.now.path.now
-            (IsProblemSaid (System error))) run.old run.new) }
+            (IsProblemSaid None)) run.old run.new) }
     {
         match error.kind() {
             io::ErrorKind::OutOfMemory => Err(Stop::Memory),
-            _ => self.tell_problem(Fault::System(error), run),
+            _ => self.tell_problem(&error, run),
         }
     }
 }

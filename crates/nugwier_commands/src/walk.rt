@@ -3,12 +3,12 @@ ghost use Rattle.std.specs.Prelude.{◌≡◌, ◌++◌, IfOk, IfSome, List, OnO
 ghost use Rattle.std.specs.Option.{option_map};
 ghost use Rattle.nugwier_commands.specs.Walk.{IsInOrder, IsNextFound, IsOpened, IsStep, file_unless, found_view};
 ghost use Rattle.nugwier_commands.specs.Walk.{is_passed, named, place_below, places_of};
-ghost use Rattle.nugwier_files.specs.Folder.{Place, place_of};
+ghost use Rattle.elf_libraries.specs.Folder.{Place, place_of};
 
+use crate::formats::is_elf;
 use crate::run::{front_in, front_of};
-use nugwier_files::files::Files;
-use nugwier_files::folder::{Entry, EntryKind};
-use nugwier_report::formats::is_elf;
+use elf_libraries::files::Files;
+use elf_libraries::folder::{Entry, EntryKind};
 use std::alloc::{AllocError, Global};
 use std::io;
 use std::path::Path;

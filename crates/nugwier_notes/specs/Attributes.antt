@@ -3,22 +3,21 @@ use Rattle.std.specs.Prelude.{ℕ, ◌==◌, ◌||◌, Bool, true, false, if◌t
 use Rattle.std.specs.Prelude.{None, Result, Ok, Err}
 use Rattle.std.specs.Option.{is_some, option_and_then}
 use Rattle.elf_attributes.specs.Attributes.{AttributeView, SubsectionView, first_attribute, first_scope, first_subsection}
-use Rattle.elf_attributes.specs.Attributes.{subsections_of, vendor_of}
+use Rattle.elf_attributes.specs.Attributes.{error_text, subsections_of, vendor_of}
 use Rattle.elf_attributes.specs.Leb128.{after_list, first_number}
 use Rattle.elf_attributes.specs.declared.attributes.AttributeError.{AttributeError}
 use Rattle.elf_attributes.specs.declared.attributes.Vendor.{Vendor}
 use Rattle.elf_names.specs.Attributes.{attribute_tag_name, attribute_value_name, scope_name}
-use Rattle.nugwier_report.specs.Hardening.{number_content}
-use Rattle.nugwier_writing.specs.Members.{Content, Members, bytes as bytes_content, nothing, number, text}
+use Rattle.nugwier_layouts.specs.Members.{number_content}
+use Rattle.nugwier_layouts.specs.Members.{Content, Members, bytes as bytes_content, nothing, number, text}
 use Rattle.nugwier_report.specs.Said.{Said, states, whole}
-use Rattle.nugwier_writing.specs.Members.{word}
-use Rattle.nugwier_report.specs.Said.{wrong}
+use Rattle.nugwier_layouts.specs.Members.{word}
+use Rattle.nugwier_report.specs.Said.{warns}
 use Rattle.nugwier_notes.specs.declared.attributes.AttributePlace.{AttributePlace}
-use Rattle.nugwier_writing.specs.declared.kind.Kind.{Kind}
-use Rattle.nugwier_writing.specs.declared.kind.Kind.TheVariants as kind
-use Rattle.nugwier_report.specs.declared.problem.Fault.TheVariants.{Attributes}
 use Rattle.nugwier_report.specs.declared.problem.Part.TheVariants.{Section}
 use Rattle.nugwier_notes.specs.declared.properties.NoteFile.{NoteFile}
+use Rattle.nugwier_layouts.specs.Layouts.{Layout, constant}
+use Rattle.nugwier_layouts.specs.declared.layouts.TheConstants as layout
 
 -- where attributes are: the machine of the file, their section, the name of their vendor, and what they are of
 pub record PlaceView : Type 0 where
@@ -34,7 +33,7 @@ abbrev pub of_scope : NoteFile → ℕ → List ℕ → ℕ → PlaceView
 of_scope file k vendor scope = record { machine = file.machine; section = k; vendor = vendor; scope = scope }
 
 abbrev pub attributes_wrong : ℕ → AttributeError → List Said
-attributes_wrong k e = wrong (whole (Section k)) (Attributes e) ∷ []
+attributes_wrong k e = warns (whole (Section k)) (Some (error_text e)) ∷ []
 
 -- ---- an attribute
 
@@ -65,15 +64,15 @@ attribute_members p a =
     ∷ []
 
 -- by whether it has a number, a name of this number, and a text
-abbrev pub attribute_kind : Bool → Bool → Bool → Kind
-attribute_kind true has_name true = kind.PairAttribute
-attribute_kind false has_name has_text = kind.TextAttribute
-attribute_kind true true false = kind.NamedAttribute
-attribute_kind true false false = kind.NumberAttribute
+abbrev pub attribute_layout : Bool → Bool → Bool → Layout
+attribute_layout true has_name true = constant layout.PAIR_ATTRIBUTE
+attribute_layout false has_name has_text = constant layout.TEXT_ATTRIBUTE
+attribute_layout true true false = constant layout.NAMED_ATTRIBUTE
+attribute_layout true false false = constant layout.NUMBER_ATTRIBUTE
 
 abbrev pub attribute_said : PlaceView → AttributeView → List Said
 attribute_said p a =
-    states (attribute_kind (is_some a.number) (is_some (number_name p.vendor a.tag a.number)) (is_some a.text))
+    states (attribute_layout (is_some a.number) (is_some (number_name p.vendor a.tag a.number)) (is_some a.text))
     (attribute_members p a) ∷ []
 
 -- each, up to one that does not fit, and no more than the first list has bytes
@@ -95,7 +94,7 @@ abbrev pub targets_said : PlaceView → List ℕ → List ℕ → List Said
 targets_said p [] rest = []
 targets_said p (byte ∷ bytes) rest = elim (first_number rest) [
   | Ok found ↦ if found.0 == 0 then []
-      else states kind.AttributeTarget (target_members p found.0) ∷ targets_said p bytes found.1
+      else states (constant layout.ATTRIBUTE_TARGET) (target_members p found.0) ∷ targets_said p bytes found.1
   | Err e ↦ []
 ]
 
@@ -108,7 +107,7 @@ listed_said p vendor (Err e) = attributes_wrong p.section e
 -- these nor Tag_File (1) the attributes are not known
 abbrev pub scope_said : PlaceView → Vendor → List ℕ → List Said
 scope_said p vendor bytes =
-    states kind.AttributeScope (scope_members p)
+    states (constant layout.ATTRIBUTE_SCOPE) (scope_members p)
     ∷ (if p.scope == 2 || p.scope == 3 then targets_said p bytes bytes ++ listed_said p vendor (after_list bytes bytes)
     else if p.scope == 1 then attributes_said p vendor bytes bytes
     else [])
@@ -128,7 +127,7 @@ scopes_said file k name vendor (byte ∷ bytes) (first ∷ rest) = elim (first_s
 abbrev pub subsection_said : NoteFile → ℕ → SubsectionView → List Said
 subsection_said file k s = elim (vendor_of s.vendor) [
   | Some vendor ↦ scopes_said file k s.vendor vendor s.content s.content
-  | None ↦ states kind.VendorAttributes ((codes "section", number k) ∷ (codes "vendor", text (Some s.vendor))
+  | None ↦ states (constant layout.VENDOR_ATTRIBUTES) ((codes "section", number k) ∷ (codes "vendor", text (Some s.vendor))
       ∷ (codes "content", bytes_content s.content) ∷ []) ∷ []
 ]
 

@@ -15,7 +15,7 @@ use Rattle.elf_records.specs.declared.file.Class.TheVariants.{ELF32, ELF64}
 use Rattle.nugwier_notes.specs.NoteParts.{address_in, after_string, text_in}
 use Rattle.nugwier_report.specs.Parts.{part_member}
 use Rattle.nugwier_notes.specs.Properties.{number_in}
-use Rattle.nugwier_writing.specs.Members.{Members, number, signed, text, word}
+use Rattle.nugwier_layouts.specs.Members.{Members, number, signed, text, word}
 use Rattle.nugwier_report.specs.Said.{Said, said_if, states}
 use Rattle.nugwier_notes.specs.declared.core_notes.AuxiliaryEntry.{AuxiliaryEntry}
 use Rattle.nugwier_notes.specs.declared.core_notes.MappedFile.{MappedFile}
@@ -23,9 +23,10 @@ use Rattle.nugwier_notes.specs.declared.core_notes.MappedFiles.{MappedFiles}
 use Rattle.nugwier_notes.specs.declared.core_notes.ProcessStatus.{ProcessStatus}
 use Rattle.nugwier_notes.specs.declared.core_notes.SignalInfo.{SignalInfo}
 use Rattle.nugwier_notes.specs.declared.core_notes.TheConstants as names
-use Rattle.nugwier_writing.specs.declared.kind.Kind.TheVariants as kind
 use Rattle.nugwier_report.specs.declared.problem.Part.{Part}
 use Rattle.nugwier_notes.specs.declared.properties.NoteFile.{NoteFile}
+use Rattle.nugwier_layouts.specs.Layouts.{constant}
+use Rattle.nugwier_layouts.specs.declared.layouts.TheConstants as layout
 
 abbrev pub is_core_note : List ℕ → Bool
 is_core_note name = bytes_eq name (codes "CORE\0")
@@ -92,7 +93,7 @@ status_members part i status =
     ∷ []
 
 abbrev pub status_said : Part → ℕ → ProcessStatus → List Said
-status_said part i status = states kind.ProcessStatus (status_members part i status) ∷ []
+status_said part i status = states (constant layout.PROCESS_STATUS) (status_members part i status) ∷ []
 
 -- ---- NT_PRPSINFO: elf_prpsinfo, which ends in pr_fname, of 16 bytes, and pr_psargs, of 80
 
@@ -118,7 +119,7 @@ process_members part i bytes =
 
 abbrev pub process_said : NoteFile → Part → ℕ → List ℕ → List Said
 process_said file part i bytes =
-    if is_process file bytes then states kind.ProcessInfo (process_members part i bytes) ∷ [] else []
+    if is_process file bytes then states (constant layout.PROCESS_INFO) (process_members part i bytes) ∷ [] else []
 
 -- ---- NT_SIGINFO: siginfo_t, of 128 bytes, which begins with si_signo, si_errno and si_code; on MIPS (EM_MIPS) si_code
 -- comes before si_errno
@@ -150,7 +151,7 @@ signal_members part i info =
     ∷ []
 
 abbrev pub signal_said : Part → ℕ → SignalInfo → List Said
-signal_said part i info = states kind.SignalInfo (signal_members part i info) ∷ []
+signal_said part i info = states (constant layout.SIGNAL_INFO) (signal_members part i info) ∷ []
 
 -- ---- NT_AUXV: entries of two numbers of the size of an address
 
@@ -176,7 +177,7 @@ entry_members part i entry =
     ∷ []
 
 abbrev pub entry_said : Part → ℕ → AuxiliaryEntry → List Said
-entry_said part i entry = states kind.AuxiliaryEntry (entry_members part i entry) ∷ []
+entry_said part i entry = states (constant layout.AUXILIARY_ENTRY) (entry_members part i entry) ∷ []
 
 -- each, no more than the first list has bytes
 abbrev pub entries_said : NoteFile → Part → ℕ → List ℕ → List ℕ → List Said
@@ -245,7 +246,7 @@ mapped_members part i mapped path =
     ∷ []
 
 abbrev pub mapped_said : Part → ℕ → MappedFile → List ℕ → List Said
-mapped_said part i mapped path = states kind.MappedFile (mapped_members part i mapped path) ∷ []
+mapped_said part i mapped path = states (constant layout.MAPPED_FILE) (mapped_members part i mapped path) ∷ []
 
 -- each mapping, by its numbers and its name, and no more than the first list has bytes
 abbrev pub mappings_said : NoteFile → Part → ℕ → List ℕ → List ℕ → List ℕ → List Said
@@ -260,7 +261,7 @@ abbrev pub files_said : NoteFile → Part → ℕ → List ℕ → MappedFiles �
 files_said file part i bytes files =
     let mappings = mappings_in file bytes in
     let table = take files.names_at mappings in
-    states kind.MappedFiles (files_members part i files)
+    states (constant layout.MAPPED_FILES) (files_members part i files)
     ∷ mappings_said file part i table table (drop files.names_at mappings)
 
 -- ---- by the type

@@ -10,13 +10,14 @@ use Rattle.nugwier_notes.specs.CoreNotes.{core_said, is_core_note}
 use Rattle.nugwier_notes.specs.NoteParts.{address_in, after_string, text_in}
 use Rattle.nugwier_report.specs.Parts.{part_member}
 use Rattle.nugwier_notes.specs.Properties.{is_property_note, properties_said}
-use Rattle.nugwier_writing.specs.Members.{Members, number, text}
+use Rattle.nugwier_layouts.specs.Members.{Members, number, text}
 use Rattle.nugwier_report.specs.Said.{Said, said_if, states}
 use Rattle.nugwier_notes.specs.declared.descriptors.ProbeAddresses.{ProbeAddresses}
 use Rattle.nugwier_notes.specs.declared.descriptors.ProbeNames.{ProbeNames}
-use Rattle.nugwier_writing.specs.declared.kind.Kind.TheVariants as kind
 use Rattle.nugwier_report.specs.declared.problem.Part.{Part}
 use Rattle.nugwier_notes.specs.declared.properties.NoteFile.{NoteFile}
+use Rattle.nugwier_layouts.specs.Layouts.{constant}
+use Rattle.nugwier_layouts.specs.declared.layouts.TheConstants as layout
 
 -- ---- a text: NT_GNU_GOLD_VERSION (4) of GNU, and the JSON of FDO, NT_FDO_PACKAGING_METADATA (systemd, "Package Metadata
 -- for Executable Files") and NT_FDO_DLOPEN_METADATA ("ELF dlopen metadata")
@@ -84,14 +85,14 @@ probe_in file bytes =
     (addresses_in file bytes)
 
 abbrev pub probe_said : Part → ℕ → ProbeAddresses × ProbeTexts → List Said
-probe_said part i probe = states kind.Probe (probe_members part i probe.0 probe.1) ∷ []
+probe_said part i probe = states (constant layout.PROBE) (probe_members part i probe.0 probe.1) ∷ []
 
 -- ---- by the type
 
 abbrev pub descriptor_said : NoteFile → Part → ℕ → ℕ → List ℕ → List ℕ → List Said
 descriptor_said file part i n_type name bytes =
     if is_property_note n_type name then properties_said file part i bytes bytes
-    else if is_text_note n_type name then states kind.NoteText (text_members part i bytes) ∷ []
+    else if is_text_note n_type name then states (constant layout.NOTE_TEXT) (text_members part i bytes) ∷ []
     else if is_probe_note n_type name then said_if (probe_said part i) (probe_in file bytes)
     else if is_core_note name then core_said file part i n_type bytes
     else []

@@ -10,11 +10,12 @@ use Rattle.elf_parts.specs.Note.{AbiTag, BuildId, NoteContent, Other}
 use Rattle.elf_parts.specs.declared.note.NoteGnuAbiTag.{NoteGnuAbiTag}
 use Rattle.nugwier_notes.specs.Descriptors.{descriptor_said}
 use Rattle.nugwier_report.specs.Parts.{part_member}
-use Rattle.nugwier_writing.specs.Members.{Members, bytes, number, text, word}
+use Rattle.nugwier_layouts.specs.Members.{Members, bytes, number, text, word}
 use Rattle.nugwier_report.specs.Said.{Said, numbered, states}
-use Rattle.nugwier_writing.specs.declared.kind.Kind.TheVariants as kind
 use Rattle.nugwier_report.specs.declared.problem.Part.{Part}
 use Rattle.nugwier_notes.specs.declared.properties.NoteFile.{NoteFile}
+use Rattle.nugwier_layouts.specs.Layouts.{constant}
+use Rattle.nugwier_layouts.specs.declared.layouts.TheConstants as layout
 
 -- a name ends in a 0 byte, which belongs to its size
 abbrev pub ends_in_nul : List ℕ → Bool
@@ -59,14 +60,14 @@ other_members part i n_type name descriptor =
     ∷ []
 
 abbrev pub abi_tag_said : Part → ℕ → NoteGnuAbiTag → List Said
-abi_tag_said part i tag = states kind.AbiTagNote (abi_tag_members part i tag) ∷ []
+abi_tag_said part i tag = states (constant layout.ABI_TAG_NOTE) (abi_tag_members part i tag) ∷ []
 
 -- a note, and what its descriptor holds
 abbrev pub note_said : NoteFile → Part → ℕ → NoteContent → List Said
 note_said file part i (AbiTag tag) = abi_tag_said part i tag
-note_said file part i (BuildId id) = states kind.BuildIdNote (build_id_members part i id) ∷ []
+note_said file part i (BuildId id) = states (constant layout.BUILD_ID_NOTE) (build_id_members part i id) ∷ []
 note_said file part i (Other n_type name descriptor) =
-    states kind.Note (other_members part i n_type name descriptor) ∷ descriptor_said file part i n_type name descriptor
+    states (constant layout.NOTE) (other_members part i n_type name descriptor) ∷ descriptor_said file part i n_type name descriptor
 
 -- each, with its number
 abbrev pub notes_said : NoteFile → Part → List NoteContent → List Said

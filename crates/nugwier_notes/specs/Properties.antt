@@ -11,15 +11,16 @@ use Rattle.elf_names.specs.Table.{rows}
 use Rattle.elf_records.specs.Number.{number_at}
 use Rattle.elf_records.specs.declared.file.Class.{Class}
 use Rattle.elf_records.specs.declared.file.Class.TheVariants.{ELF32, ELF64}
-use Rattle.nugwier_report.specs.Hardening.{feature_flags, is_aarch64, is_x86, number_content}
+use Rattle.nugwier_notes.specs.Features.{feature_flags, is_aarch64, is_x86}
+use Rattle.nugwier_layouts.specs.Members.{number_content}
 use Rattle.nugwier_report.specs.Parts.{part_member}
-use Rattle.nugwier_writing.specs.Members.{Members, flags, number, word}
+use Rattle.nugwier_layouts.specs.Members.{Members, flags, number, word}
 use Rattle.nugwier_report.specs.Said.{Said, states}
-use Rattle.nugwier_writing.specs.declared.kind.Kind.{Kind}
-use Rattle.nugwier_writing.specs.declared.kind.Kind.TheVariants as kind
 use Rattle.nugwier_report.specs.declared.problem.Part.{Part}
 use Rattle.nugwier_notes.specs.declared.properties.NoteFile.{NoteFile}
 use Rattle.nugwier_notes.specs.declared.properties.TheConstants as names
+use Rattle.nugwier_layouts.specs.Layouts.{Layout, constant}
+use Rattle.nugwier_layouts.specs.declared.layouts.TheConstants as layout
 
 -- the note has the name GNU and the type NT_GNU_PROPERTY_TYPE_0 (5)
 abbrev pub is_property_note : ℕ → List ℕ → Bool
@@ -98,12 +99,12 @@ property_members file part i p n =
     ∷ (codes "number_names", flags (property_flags file.machine p.0) (unwrap_or n 0))
     ∷ []
 
-abbrev pub property_kind : Option ℕ → Kind
-property_kind (Some n) = kind.NumberProperty
-property_kind None = kind.Property
+abbrev pub property_layout : Option ℕ → Layout
+property_layout (Some n) = constant layout.NUMBER_PROPERTY
+property_layout None = constant layout.PROPERTY
 
 abbrev pub property_said : NoteFile → Part → ℕ → ℕ × ℕ → Option ℕ → List Said
-property_said file part i p n = states (property_kind n) (property_members file part i p n) ∷ []
+property_said file part i p n = states (property_layout n) (property_members file part i p n) ∷ []
 
 -- each, up to one that does not fit, and no more than the first list has bytes
 abbrev pub properties_said : NoteFile → Part → ℕ → List ℕ → List ℕ → List Said

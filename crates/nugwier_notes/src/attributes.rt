@@ -5,12 +5,13 @@ ghost use Rattle.std.specs.Prelude.{◌≡◌, OnOk};
 ghost use Rattle.std.specs.Option.{option_copied};
 ghost use Rattle.elf_attributes.specs.Attributes.{attribute_view, subsection_view};
 ghost use Rattle.elf_records.specs.Number.{ok_map};
-ghost use Rattle.nugwier_notes.specs.Attributes.{attribute_kind, attribute_members, attribute_said, attributes_said};
+ghost use Rattle.nugwier_notes.specs.Attributes.{attribute_layout, attribute_members, attribute_said, attributes_said};
 ghost use Rattle.nugwier_notes.specs.Attributes.{attributes_wrong, build_attributes_said, listed_said, number_name};
 ghost use Rattle.nugwier_notes.specs.Attributes.{place_view, scope_members, scope_said, scopes_said, subsection_said};
 ghost use Rattle.nugwier_notes.specs.Attributes.{subsections_said, target_members, targets_said, text_content};
-ghost use Rattle.nugwier_writing.specs.Members.{content_of, members_said};
+ghost use Rattle.nugwier_layouts.specs.Members.{content_of, members_said};
 ghost use Rattle.nugwier_report.specs.Said.{saying};
+ghost use Rattle.nugwier_layouts.specs.Layouts.{layout_of};
 
 use crate::properties::NoteFile;
 use elf_attributes::attributes::{
@@ -19,11 +20,11 @@ use elf_attributes::attributes::{
 };
 use elf_attributes::leb128::{after_list, first_number};
 use elf_names::attributes::{attribute_tag_name, attribute_value_name, scope_name};
-use nugwier_report::hardening::number_value;
-use nugwier_report::problem::{Fault, Part, Stop};
+use nugwier_layouts::json::{Member, Value, number_value};
+use nugwier_layouts::layouts;
+use nugwier_layouts::layouts::Layout;
+use nugwier_report::problem::{Part, Stop};
 use nugwier_report::tell::Tell;
-use nugwier_writing::json::{Member, Value};
-use nugwier_writing::kind::Kind;
 
 /// Where attributes are: the machine of the file, the number of their section, the name of their vendor, and the tag that
 /// says what they are of.
@@ -53,7 +54,7 @@ pub fn tell_build_attributes<T: Tell>(
 fn tell_error<T: Tell>(section: u64, error: AttributeError, tell: &mut T) -> Result<(), Stop>
     ensures { OnOk result (tell.new ≡ saying T.one tell.old (attributes_wrong section error)) }
 {
-    tell.problem(Part::Section(section).whole(), Fault::Attributes(error))
+    tell.problem(Part::Section(section).whole(), &error)
 }
 
 // ---- subsections
@@ -101,7 +102,7 @@ fn tell_subsection<T: Tell>(
         ("vendor", Value::Text(Some(subsection.vendor))),
         ("content", Value::Bytes(subsection.content)),
     ];
-    tell.state(Kind::VendorAttributes, &members)
+    tell.state(&layouts::VENDOR_ATTRIBUTES, &members)
 }
 
 // ---- what attributes are of
@@ -159,7 +160,7 @@ fn tell_scope<T: Tell>(
 ) -> Result<(), Stop>
     ensures { OnOk result (tell.new ≡ saying T.one tell.old (scope_said (place_view place.entry) known bytes.now)) }
 {
-    tell.state(Kind::AttributeScope, &scope_members(place))?;
+    tell.state(&layouts::ATTRIBUTE_SCOPE, &scope_members(place))?;
     // the numbers of sections or of symbols come before the attributes
     if place.scope == 2 || place.scope == 3 {
         tell_targets(place, bytes, tell)?;
@@ -197,7 +198,7 @@ fn tell_targets<T: Tell>(place: AttributePlace<'_>, bytes: &[u8], tell: &mut T) 
         if number == 0 {
             return Ok(());
         }
-        tell.state(Kind::AttributeTarget, &target_members(place, number))?;
+        tell.state(&layouts::ATTRIBUTE_TARGET, &target_members(place, number))?;
         rest = after;
         left = others;
     }
@@ -286,14 +287,14 @@ fn attribute_members<'a>(place: AttributePlace<'a>, attribute: Attribute<'a>) ->
 }
 
 // The kind of an attribute with or without a number, a name of this number, and a text.
-fn attribute_kind(has_number: bool, has_name: bool, has_text: bool) -> Kind
-    ensures { result ≡ attribute_kind has_number has_name has_text }
+fn attribute_layout(has_number: bool, has_name: bool, has_text: bool) -> &'static Layout
+    ensures { layout_of result.now ≡ attribute_layout has_number has_name has_text }
 {
     match (has_number, has_name, has_text) {
-        (true, _, true) => Kind::PairAttribute,
-        (false, _, _) => Kind::TextAttribute,
-        (true, true, false) => Kind::NamedAttribute,
-        (true, false, false) => Kind::NumberAttribute,
+        (true, _, true) => &layouts::PAIR_ATTRIBUTE,
+        (false, _, _) => &layouts::TEXT_ATTRIBUTE,
+        (true, true, false) => &layouts::NAMED_ATTRIBUTE,
+        (true, false, false) => &layouts::NUMBER_ATTRIBUTE,
     }
 }
 
@@ -307,6 +308,6 @@ fn tell_attribute<T: Tell>(
 {
     let Attribute { tag, number, text } = attribute;
     let name = number_name(place.vendor, tag, number);
-    let kind = attribute_kind(number.is_some(), name.is_some(), text.is_some());
-    tell.state(kind, &attribute_members(place, attribute))
+    let layout = attribute_layout(number.is_some(), name.is_some(), text.is_some());
+    tell.state(layout, &attribute_members(place, attribute))
 }

@@ -10,7 +10,7 @@ ghost use Rattle.nugwier_notes.specs.CoreNotes.{mapped_in, mapped_members, mappe
 ghost use Rattle.nugwier_notes.specs.CoreNotes.{names_at, nul_count, process_members, process_said, short_in, signal_in};
 ghost use Rattle.nugwier_notes.specs.CoreNotes.{signal_members, signal_offsets, signal_said, signed_in, status_in};
 ghost use Rattle.nugwier_notes.specs.CoreNotes.{status_members, status_said};
-ghost use Rattle.nugwier_writing.specs.Members.{members_said};
+ghost use Rattle.nugwier_layouts.specs.Members.{members_said};
 ghost use Rattle.nugwier_report.specs.Said.{said_if, saying};
 
 use crate::note_parts::{address_in, address_size, after_string, text_in};
@@ -19,11 +19,11 @@ use elf_abi::abi;
 use elf_names::table::{Names, name_in};
 use elf_parts::endian::EndianParse;
 use elf_parts::file::Class;
+use elf_records::slices::{first_of, rest_of};
+use nugwier_layouts::json::{Member, Value};
+use nugwier_layouts::layouts;
 use nugwier_report::problem::{Part, Stop, part_member};
 use nugwier_report::tell::Tell;
-use nugwier_writing::json::{Member, Value};
-use nugwier_writing::kind::Kind;
-use nugwier_writing::slices::{first_of, rest_of};
 
 /// Whether a note describes a process.
 pub(crate) fn is_core_note(name: &[u8]) -> bool
@@ -130,7 +130,12 @@ fn tell_status<T: Tell>(
     ensures { OnOk result (tell.new ≡ saying T.one tell.old (said_if (status_said part number) status)) }
 {
     match status {
-        Some(status) => { tell.state(Kind::ProcessStatus, &status_members(part, number, status)) }
+        Some(status) => {
+            tell.state(
+                &layouts::PROCESS_STATUS,
+                &status_members(part, number, status),
+            )
+        }
         None => Ok(()),
     }
 }
@@ -181,7 +186,10 @@ fn tell_process<T: Tell>(
     ensures { OnOk result (tell.new ≡ saying T.one tell.old (process_said file part number bytes.now)) }
 {
     if is_process(file, bytes) {
-        tell.state(Kind::ProcessInfo, &process_members(part, number, bytes))
+        tell.state(
+            &layouts::PROCESS_INFO,
+            &process_members(part, number, bytes),
+        )
     } else {
         Ok(())
     }
@@ -241,7 +249,7 @@ fn tell_signal<T: Tell>(
     ensures { OnOk result (tell.new ≡ saying T.one tell.old (said_if (signal_said part number) info)) }
 {
     match info {
-        Some(info) => tell.state(Kind::SignalInfo, &signal_members(part, number, info)),
+        Some(info) => tell.state(&layouts::SIGNAL_INFO, &signal_members(part, number, info)),
         None => Ok(()),
     }
 }
@@ -368,7 +376,10 @@ fn tell_entry<T: Tell>(
 ) -> Result<(), Stop>
     ensures { OnOk result (tell.new ≡ saying T.one tell.old (entry_said part number entry)) }
 {
-    tell.state(Kind::AuxiliaryEntry, &entry_members(part, number, entry))
+    tell.state(
+        &layouts::AUXILIARY_ENTRY,
+        &entry_members(part, number, entry),
+    )
 }
 
 fn tell_entries<T: Tell>(
@@ -519,7 +530,7 @@ fn tell_mapped<T: Tell>(
     ensures { OnOk result (tell.new ≡ saying T.one tell.old (mapped_said part number mapped path.now)) }
 {
     tell.state(
-        Kind::MappedFile,
+        &layouts::MAPPED_FILE,
         &mapped_members(part, number, mapped, path),
     )
 }
@@ -569,6 +580,6 @@ fn tell_files<T: Tell>(
     let mappings = mappings_in(file, bytes);
     let table = first_of(files.names_at, mappings);
     let texts = rest_of(files.names_at, mappings);
-    tell.state(Kind::MappedFiles, &files_members(part, number, files))?;
+    tell.state(&layouts::MAPPED_FILES, &files_members(part, number, files))?;
     tell_mappings(file, part, number, table, texts, tell)
 }

@@ -6,7 +6,7 @@ ghost use Rattle.std.specs.Option.{option_copied, option_map};
 ghost use Rattle.nugwier_notes.specs.Descriptors.{addresses_in, descriptor_said, first_string};
 ghost use Rattle.nugwier_notes.specs.Descriptors.{is_probe_note, is_text_note, probe_in, probe_members, probe_said};
 ghost use Rattle.nugwier_notes.specs.Descriptors.{text_members, texts_in, texts_view};
-ghost use Rattle.nugwier_writing.specs.Members.{members_said};
+ghost use Rattle.nugwier_layouts.specs.Members.{members_said};
 ghost use Rattle.nugwier_report.specs.Said.{said_if, saying};
 
 use crate::core_notes::{is_core_note, tell_core_note};
@@ -14,11 +14,11 @@ use crate::note_parts::{address_in, address_size, after_string, text_in};
 use crate::properties::{NoteFile, is_property_note, tell_properties};
 use elf_parts::note::NoteAny;
 use elf_parts::string_table::StringTable;
+use elf_records::slices::rest_of;
+use nugwier_layouts::json::{Member, Value};
+use nugwier_layouts::layouts;
 use nugwier_report::problem::{Part, Stop, part_member};
 use nugwier_report::tell::Tell;
-use nugwier_writing::json::{Member, Value};
-use nugwier_writing::kind::Kind;
-use nugwier_writing::slices::rest_of;
 
 /// Says what the descriptor of a note holds, by the number of the note.
 pub(crate) fn tell_descriptor<T: Tell>(
@@ -34,7 +34,7 @@ pub(crate) fn tell_descriptor<T: Tell>(
     if is_property_note(note.n_type, note.name) {
         tell_properties(file, part, number, note.desc, tell)
     } else if is_text_note(note.n_type, note.name) {
-        tell.state(Kind::NoteText, &text_members(part, number, note.desc))
+        tell.state(&layouts::NOTE_TEXT, &text_members(part, number, note.desc))
     } else if is_probe_note(note.n_type, note.name) {
         tell_probe(part, number, probe_in(file, note.desc), tell)
     } else if is_core_note(note.name) {
@@ -144,7 +144,10 @@ fn tell_probe<T: Tell>(
 {
     match probe {
         Some((addresses, names)) => {
-            tell.state(Kind::Probe, &probe_members(part, number, addresses, names))
+            tell.state(
+                &layouts::PROBE,
+                &probe_members(part, number, addresses, names),
+            )
         }
         None => Ok(()),
     }

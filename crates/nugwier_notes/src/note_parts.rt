@@ -6,8 +6,8 @@ ghost use Rattle.nugwier_notes.specs.NoteParts.{address_in, after_string, text_i
 use crate::properties::NoteFile;
 use elf_parts::file::Class;
 use elf_records::parse::parse_by_class;
+use elf_records::slices::rest_of;
 use elf_records::string_table::first_nul;
-use nugwier_writing::slices::rest_of;
 
 /// Returns the size of an address.
 pub(crate) fn address_size(class: Class) -> usize

@@ -3,7 +3,7 @@
 
 ghost use Rattle.std.specs.Prelude.{◌≡◌, OnOk};
 ghost use Rattle.elf_parts.specs.Note.{Other, note_view, notes_left};
-ghost use Rattle.nugwier_writing.specs.Members.{members_said};
+ghost use Rattle.nugwier_layouts.specs.Members.{members_said};
 ghost use Rattle.nugwier_notes.specs.Notes.{abi_tag_members, abi_tag_said, build_id_members, note_said, notes_said};
 ghost use Rattle.nugwier_notes.specs.Notes.{other_members, without_nul};
 ghost use Rattle.nugwier_report.specs.Said.{saying};
@@ -15,11 +15,11 @@ use elf_names::notes::note_type_name;
 use elf_parts::endian::EndianParse;
 use elf_parts::laws::notes::few_notes_are_left;
 use elf_parts::note::{Note, NoteAny, NoteGnuAbiTag, NoteIterator};
+use nugwier_layouts::json::{Member, Value};
+use nugwier_layouts::layouts;
 use nugwier_report::problem::{Part, Stop, part_member};
 use nugwier_report::rows::{Row, tell_items};
 use nugwier_report::tell::Tell;
-use nugwier_writing::json::{Member, Value};
-use nugwier_writing::kind::Kind;
 use std::marker::PhantomData;
 
 /// Says the notes of a section or of a segment.
@@ -58,7 +58,10 @@ impl<'data> Row for NoteRow<'data> {
         match note {
             Note::GnuAbiTag(tag) => tell_abi_tag(part, number, tag, tell),
             Note::GnuBuildId(id) => {
-                tell.state(Kind::BuildIdNote, &build_id_members(part, number, id.0))
+                tell.state(
+                    &layouts::BUILD_ID_NOTE,
+                    &build_id_members(part, number, id.0),
+                )
             }
             Note::Unknown(note) => tell_other(self.file, part, number, note, tell),
         }
@@ -73,7 +76,7 @@ fn tell_abi_tag<T: Tell>(
 ) -> Result<(), Stop>
     ensures { OnOk result (tell.new ≡ saying T.one tell.old (abi_tag_said part number tag.now)) }
 {
-    tell.state(Kind::AbiTagNote, &abi_tag_members(part, number, tag))
+    tell.state(&layouts::ABI_TAG_NOTE, &abi_tag_members(part, number, tag))
 }
 
 fn tell_other<T: Tell>(
@@ -86,7 +89,7 @@ fn tell_other<T: Tell>(
     ensures { OnOk result (tell.new ≡ saying T.one tell.old
         (note_said file part number (Other note.now.n_type note.now.name.now note.now.desc.now))) }
 {
-    tell.state(Kind::Note, &other_members(part, number, note))?;
+    tell.state(&layouts::NOTE, &other_members(part, number, note))?;
     tell_descriptor(file, part, number, note, tell)
 }
 

@@ -5,23 +5,23 @@ ghost use Rattle.std.specs.Prelude.{◌≡◌, OnOk};
 ghost use Rattle.elf_names.specs.Flags.{flags_of};
 ghost use Rattle.elf_names.specs.Table.{rows_of};
 ghost use Rattle.elf_records.specs.Endian.{any_is_little};
-ghost use Rattle.nugwier_writing.specs.Members.{members_said};
+ghost use Rattle.nugwier_layouts.specs.Members.{members_said};
 ghost use Rattle.nugwier_notes.specs.Properties.{feature_type, is_feature_type, is_property_note};
 ghost use Rattle.nugwier_notes.specs.Properties.{number_in, padded, properties_said, property_at, property_flags};
 ghost use Rattle.nugwier_notes.specs.Properties.{property_members, property_number, property_said, property_types};
 ghost use Rattle.nugwier_report.specs.Said.{saying};
 
+use crate::features::{feature_flags, is_aarch64, is_x86};
 use elf_abi::abi;
 use elf_names::flags::Flags;
 use elf_names::table::{Names, name_in};
 use elf_parts::endian::{AnyEndian, EndianParse};
 use elf_parts::file::Class;
-use nugwier_report::hardening::{feature_flags, is_aarch64, is_x86, number_value};
+use elf_records::slices::rest_of;
+use nugwier_layouts::json::{Member, Value, number_value};
+use nugwier_layouts::layouts;
 use nugwier_report::problem::{Part, Stop, part_member};
 use nugwier_report::tell::Tell;
-use nugwier_writing::json::{Member, Value};
-use nugwier_writing::kind::Kind;
-use nugwier_writing::slices::rest_of;
 
 /// A file, as the descriptors of notes and build attributes depend on it: its byte order, its class, and its machine
 /// (`e_machine`).
@@ -241,8 +241,8 @@ fn tell_property<T: Tell>(
 {
     let members = property_members(file, part, note, property, number);
     match number {
-        Some(_) => tell.state(Kind::NumberProperty, &members),
-        None => tell.state(Kind::Property, &members),
+        Some(_) => tell.state(&layouts::NUMBER_PROPERTY, &members),
+        None => tell.state(&layouts::PROPERTY, &members),
     }
 }
 

@@ -16,7 +16,7 @@ use Rattle.elf_linking.specs.Binding.{VersionedObject}
 use Rattle.elf_parts.specs.gnu_symver.Table.{Versions}
 use Rattle.elf_records.specs.declared.symbol.Symbol.{Symbol}
 use Rattle.elf_linking.specs.declared.bindings.kinds.SymbolBinding.{SymbolBinding}
-use Rattle.nugwier_records.specs.Bindings.{BoundSymbol}
+use Rattle.nugwier_programs.specs.BindingRows.{BoundSymbol}
 use Rattle.nugwier_report.specs.Said.{Said, saying}
 use Rattle.nugwier_report.proofs.Saying.{saying_both, then_said}
 use Rattle.nugwier_programs.specs.Tree.{Listed, after_it, cached_in, first_by, walk}

@@ -26,15 +26,18 @@ use Rattle.elf_libraries.specs.Tree.{Entry, Found, in_order, linked_file, withou
 use Rattle.elf_linking.specs.declared.bindings.kinds.SymbolBinding.{SymbolBinding}
 use Rattle.elf_linking.specs.declared.bindings.uses.SymbolUses.{SymbolUses}
 use Rattle.elf_linking.specs.declared.bindings.uses.UsesError.{UsesError}
-use Rattle.nugwier_writing.specs.Members.{text}
+use Rattle.nugwier_layouts.specs.Members.{text}
 use Rattle.nugwier_report.specs.Said.{Said, states, whole, wrong}
-use Rattle.nugwier_writing.specs.declared.kind.Kind.TheVariants.{FileHeading, NextFileHeading}
-use Rattle.nugwier_report.specs.declared.problem.Fault.{Fault}
-use Rattle.nugwier_report.specs.declared.problem.Fault.TheVariants.{NoHash, Object, Read, Relocations, Unread}
+use Rattle.nugwier_programs.specs.Faults.{warned}
+use Rattle.nugwier_programs.specs.declared.faults.Fault.{Fault}
+use Rattle.nugwier_programs.specs.declared.faults.Fault.TheVariants.{NoHash, Object, Relocations, Unread}
+use Rattle.nugwier_report.specs.declared.problem.Fault.TheVariants.{Read}
 use Rattle.nugwier_report.specs.declared.problem.Part.TheVariants.{File}
-use Rattle.nugwier_files.specs.Folder.{KnownFiles}
+use Rattle.elf_libraries.specs.Folder.{KnownFiles}
 use Rattle.nugwier_programs.specs.Symbols.{symbols_said}
 use Rattle.nugwier_programs.specs.Tree.{AreNamedObjects, Known, Order, Search, object_problems}
+use Rattle.nugwier_layouts.specs.Layouts.{constant}
+use Rattle.nugwier_layouts.specs.declared.layouts.TheConstants as layout
 
 -- ---- what is opened: of a program by its bytes, of a library by what is at its path
 
@@ -107,8 +110,8 @@ files_in opening = option_to_list (file_in opening)
 -- that it cannot be opened
 abbrev pub open_problem : Opening → List Said
 open_problem NoFile = []
-open_problem (Gone path) = wrong (whole File) (Unread path) ∷ []
-open_problem (Refused path e) = wrong (whole File) (Object path (IsRead e)) ∷ []
+open_problem (Gone path) = warned (Unread path)
+open_problem (Refused path e) = warned (Object path (IsRead e))
 open_problem (Loaded file) = []
 
 -- ---- what is searched
@@ -155,7 +158,7 @@ files_of (Unsearchable fault) = []
 abbrev pub search_problem : Searching → List Said
 search_problem (Searched file) = []
 search_problem WithoutSymbols = []
-search_problem (Unsearchable fault) = wrong (whole File) fault ∷ []
+search_problem (Unsearchable fault) = warned fault
 
 -- ---- what is said of the symbols of a file
 
@@ -165,7 +168,7 @@ file_uses o symbols = dynamic_uses o.machine o.file (replicate (table_len symbol
 
 abbrev pub uses_problem : List ℕ → Result (List SymbolUses) UsesError → List Said
 uses_problem path (Ok uses) = []
-uses_problem path (Err e) = wrong (whole File) (Relocations path e) ∷ []
+uses_problem path (Err e) = warned (Relocations path e)
 
 -- if the relocations cannot be read, those count that were read before
 abbrev pub AreUses : Result (List SymbolUses) UsesError → List SymbolUses → Type 0
@@ -199,7 +202,7 @@ objects_of scope = map (λ (file : SearchedFile). file.object) scope
 -- the path of the file at a place, for people
 abbrev pub file_heading : ℕ → List ℕ → List Said
 file_heading place path =
-    states (if place == 0 then FileHeading else NextFileHeading) ((codes "path", text (Some path)) ∷ []) ∷ []
+    states (if place == 0 then constant layout.FILE_HEADING else (constant layout.NEXT_FILE_HEADING)) ((codes "path", text (Some path)) ∷ []) ∷ []
 
 module _ (scope : List SearchedFile) where
   abbrev pub IsFileSaid : SearchedFile → List Said → Type 0

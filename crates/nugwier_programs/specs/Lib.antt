@@ -1,14 +1,10 @@
--- the usual folders of libraries
-pub mod Usual
--- the subfolders of libraries for the processor, and known ones
-pub mod Processor
--- names by shell patterns
-pub mod Patterns
--- the folders of ld.so.conf
-pub mod Configured
+-- what is wrong with the objects of a program
+pub mod Faults
 -- what is said of a program and the libraries that it loads
+pub mod ObjectRows
 pub mod Tree
 -- what is said of symbols that are bound, and of the files that have them
+pub mod BindingRows
 pub mod Symbols
 pub mod Bindings
 -- what stands here although no public contract speaks of it

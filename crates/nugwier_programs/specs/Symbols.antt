@@ -1,6 +1,6 @@
 -- What is said of the symbols of a file that are bound: a record for each kind of references to them, and then which
 -- are missing, and which may bind to what is not known.
-use Rattle.std.specs.Prelude.{ℕ, ◌==◌, ◌&&◌, Bool, true, false, if◌then◌else◌, List, [], ◌∷◌, ◌++◌, codes}
+use Rattle.std.specs.Prelude.{ℕ, ◌==◌, ◌&&◌, Bool, true, false, if◌then◌else◌, List, [], ◌++◌, codes}
 use Rattle.std.specs.Prelude.{Option, Some, None, Result, Ok, Err, slice_get, unwrap_or}
 use Rattle.std.specs.List.{flat_map}
 use Rattle.std.specs.Result.{result_ok}
@@ -18,13 +18,13 @@ use Rattle.elf_linking.specs.declared.bindings.kinds.SymbolFault.{SymbolFault}
 use Rattle.elf_linking.specs.declared.bindings.kinds.SymbolFault.TheVariants.{Name, Object, Version}
 use Rattle.elf_linking.specs.SymbolUses.{uses_at}
 use Rattle.elf_linking.specs.declared.bindings.uses.SymbolUses.{SymbolUses}
-use Rattle.nugwier_records.specs.Bindings.{BoundSymbol, Missing, Target, ToSymbol, Unknown, Weak, binding_said}
-use Rattle.nugwier_report.specs.Said.{Said, whole, wrong}
-use Rattle.nugwier_records.specs.declared.bindings.Place.{Place}
-use Rattle.nugwier_records.specs.declared.bindings.Place.TheVariants.{Elsewhere, First, Same}
-use Rattle.nugwier_report.specs.declared.problem.Fault.TheVariants.{MissingSymbol, UnknownSymbol, UnknownVersion}
-use Rattle.nugwier_report.specs.declared.problem.Part.TheVariants.{File}
-use Rattle.nugwier_report.specs.declared.quoted.QuotedSymbol.{QuotedSymbol}
+use Rattle.nugwier_programs.specs.BindingRows.{BoundSymbol, Missing, Target, ToSymbol, Unknown, Weak, binding_said}
+use Rattle.nugwier_programs.specs.Faults.{warned}
+use Rattle.nugwier_report.specs.Said.{Said}
+use Rattle.nugwier_programs.specs.declared.binding_rows.Place.{Place}
+use Rattle.nugwier_programs.specs.declared.binding_rows.Place.TheVariants.{Elsewhere, First, Same}
+use Rattle.nugwier_programs.specs.declared.faults.Fault.TheVariants.{MissingSymbol, UnknownSymbol, UnknownVersion}
+use Rattle.nugwier_programs.specs.declared.faults.QuotedSymbol.{QuotedSymbol}
 
 -- ---- a symbol
 
@@ -120,15 +120,15 @@ quoted symbol = record { name = symbol.name; version = symbol.version }
 
 module _ (paths : List (List ℕ)) (symbol : BoundSymbol) where
   abbrev pub fault_problem : SymbolFault → List Said
-  fault_problem (Name e) = wrong (whole File) (UnknownSymbol symbol.path (quoted symbol) (Name e)) ∷ []
-  fault_problem (Version e) = wrong (whole File) (UnknownSymbol symbol.path (quoted symbol) (Version e)) ∷ []
+  fault_problem (Name e) = warned (UnknownSymbol symbol.path (quoted symbol) (Name e))
+  fault_problem (Version e) = warned (UnknownSymbol symbol.path (quoted symbol) (Version e))
   fault_problem (Object fault) =
-      wrong (whole File) (UnknownVersion symbol.path (quoted symbol) (path_in paths fault.object) fault.symbol) ∷ []
+      warned (UnknownVersion symbol.path (quoted symbol) (path_in paths fault.object) fault.symbol)
 
   abbrev pub outcome_problem : Outcome → List Said
   outcome_problem (Ok (bound.To object index)) = []
   outcome_problem (Ok bound.Weak) = []
-  outcome_problem (Ok bound.Missing) = wrong (whole File) (MissingSymbol symbol.path (quoted symbol)) ∷ []
+  outcome_problem (Ok bound.Missing) = warned (MissingSymbol symbol.path (quoted symbol))
   outcome_problem (Err fault) = fault_problem fault
 
   -- it is told once

@@ -18,14 +18,16 @@ use Rattle.elf_linking.specs.declared.needed.NamesError.{NamesError}
 use Rattle.elf_libraries.specs.declared.tree.Kind.{Kind}
 use Rattle.elf_libraries.specs.declared.tree.LoadOrder.{LoadOrder}
 use Rattle.elf_libraries.specs.declared.tree.LoadedFile.{LoadedFile}
-use Rattle.nugwier_files.specs.Folder.{KnownFiles, opened_in}
-use Rattle.nugwier_records.specs.Objects.{object_said}
+use Rattle.elf_libraries.specs.Folder.{KnownFiles, opened_in}
+use Rattle.nugwier_programs.specs.ObjectRows.{object_said}
 use Rattle.nugwier_report.specs.Said.{Said, whole, wrong}
-use Rattle.nugwier_report.specs.declared.problem.Fault.TheVariants.{Names, NotFound, Read}
+use Rattle.nugwier_programs.specs.Faults.{warned}
+use Rattle.nugwier_programs.specs.declared.faults.Fault.TheVariants.{Names, NotFound}
+use Rattle.nugwier_report.specs.declared.problem.Fault.TheVariants.{Read}
 use Rattle.nugwier_report.specs.declared.problem.Part.TheVariants.{File}
-use Rattle.nugwier_programs.specs.Configured.{AreListed}
-use Rattle.nugwier_programs.specs.Processor.{hwcaps_of, level_for}
-use Rattle.nugwier_programs.specs.Usual.{lib_of, platform_of, usual_folders}
+use Rattle.elf_libraries.specs.Configured.{AreListed}
+use Rattle.elf_libraries.specs.Processor.{hwcaps_of, level_for}
+use Rattle.elf_libraries.specs.Usual.{lib_of, platform_of, usual_folders}
 use Rattle.nugwier_programs.specs.declared.tree.Search.{Search as Given}
 use denote.Ref.{Bor}
 
@@ -171,12 +173,12 @@ listed_said objects x = entry_said objects x.depth (slice_get objects x.place)
 -- that its names are not known
 abbrev pub names_problem : List ℕ → Result (Option Named) NamesError → List Said
 names_problem path (Ok names) = []
-names_problem path (Err e) = wrong (whole File) (Names path e) ∷ []
+names_problem path (Err e) = warned (Names path e)
 
 -- or that it is missing
 abbrev pub file_problem : List Entry → Entry → Option Found → List Said
 file_problem objects e (Some found) = names_problem found.path found.names
-file_problem objects e None = wrong (whole File) (NotFound e.name (path_at objects e.loader)) ∷ []
+file_problem objects e None = warned (NotFound e.name (path_at objects e.loader))
 
 abbrev pub object_problem : List Entry → Entry → List Said
 object_problem objects e = file_problem objects e e.file

@@ -2,7 +2,5 @@
 pub mod Walk
 -- the files and the objects of a scope, as the code has them
 pub mod Scope
--- paths, and a set of the same
-pub mod Paths
 -- what is loaded of a file
 pub mod Opening

@@ -1,5 +1,5 @@
 //! What the symbols of a program and of its libraries bind to.
-#![tactic(auto, using(nugwier_report::proofs::Saying::saying_both, nugwier_records::proofs::Parts::said_parts))]
+#![tactic(auto, using(nugwier_report::proofs::Saying::saying_both, nugwier_report::proofs::Parts::said_parts))]
 
 ghost use Rattle.std.specs.Prelude.{◌≡◌, ◌∷◌, ◌++◌, List, OnOk, Some, map};
 ghost use Rattle.std.specs.List.{flat_map};
@@ -22,8 +22,8 @@ use crate::bindings::objects::{
 use crate::bindings::rows::tell_file;
 use crate::bindings::targets::Scope;
 use crate::tree::{Search, named_objects, open_program, tell_problems};
+use elf_libraries::files::Files;
 use elf_libraries::tree::{LoadedFile, Object, in_order};
-use nugwier_files::files::Files;
 use nugwier_report::problem::Stop;
 use nugwier_report::tell::Tell;
 use std::alloc::Global;

@@ -1,10 +1,8 @@
-//! What `nugwier` says of a program with its libraries.
+//! What `nugwier` says of a program with its libraries: its objects (`tree`), and what their symbols bind to (`bindings`).
 #![tactic(auto)]
 
+pub mod binding_rows;
 pub mod bindings;
-mod configured;
-mod paths;
-pub mod patterns;
-pub mod processor;
+pub mod faults;
+pub mod object_rows;
 pub mod tree;
-mod usual;

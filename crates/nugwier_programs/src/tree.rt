@@ -1,5 +1,5 @@
 //! The libraries that a program loads.
-#![tactic(auto, using(nugwier_report::proofs::Saying::saying_both, nugwier_records::proofs::Parts::said_parts))]
+#![tactic(auto, using(nugwier_report::proofs::Saying::saying_both, nugwier_report::proofs::Parts::said_parts))]
 
 ghost use Rattle.std.specs.Prelude.{◌≡◌, ◌++◌, List, Some, IfOk, IfSome, OnOk, map, slice_get};
 ghost use Rattle.std.specs.List.{flat_map};
@@ -17,20 +17,21 @@ ghost use Rattle.nugwier_programs.specs.inner.Walk.{AreFirsts, listed_view, stac
 ghost use Rattle.nugwier_report.specs.Said.{Said, saying, unread, whole};
 ghost use Rattle.nugwier_report.specs.declared.problem.Part.TheVariants.{File};
 
-use crate::configured::{borrowed, listed_folders};
-use crate::processor::{hwcaps_of, level_for};
-use crate::usual::{lib_of, platform_of, usual_folders};
+use crate::faults::{Fault, NamesFault};
+use crate::object_rows::ListedObject;
 use elf::endian::AnyEndian;
 use elf_libraries::cache::{LibraryFlags, LinkerCache};
+use elf_libraries::configured::{borrowed, listed_folders};
+use elf_libraries::files::Files;
+use elf_libraries::named::NamedLibraries;
+use elf_libraries::processor::{hwcaps_of, level_for};
 use elf_libraries::search::Surroundings;
 use elf_libraries::tree::{
     LoadOrder, LoadedFile, Object, OpenError, load_order, loader_at, object_at,
 };
-use nugwier_files::files::Files;
-use nugwier_files::named::NamedLibraries;
-use nugwier_records::objects::ListedObject;
-use nugwier_report::problem::{Fault, Item, Part, Place, Stop};
-use nugwier_report::quoted::{NamesFault, Quoted};
+use elf_libraries::usual::{lib_of, platform_of, usual_folders};
+use nugwier_report::problem::{Item, Part, Place, Stop};
+use nugwier_report::quoted::Quoted;
 use nugwier_report::tell::Tell;
 use std::alloc::{AllocError, Global};
 
@@ -95,7 +96,7 @@ pub(crate) fn open_program<T: Tell>(
         Ok(program) => Ok(Some(program)),
         Err(OpenError::Memory) => Err(Stop::Memory),
         Err(OpenError::Open(error)) => {
-            tell.problem(FILE, Fault::Read(error))?;
+            tell.problem(FILE, &error)?;
             Ok(None)
         }
     }
@@ -196,13 +197,13 @@ fn tell_problem<T: Tell>(objects: &[Object], object: &Object, tell: &mut T) -> R
     let Some(file) = &object.file else {
         let name = Quoted::new(&object.name);
         let loader = Quoted::new(path_at(objects, object.loader));
-        return tell.problem(FILE, Fault::NotFound(name, loader));
+        return tell.problem(FILE, &Fault::NotFound(name, loader));
     };
     match &file.names {
         Ok(_) => Ok(()),
         Err(error) => {
             let path = Quoted::new(&file.path);
-            tell.problem(FILE, Fault::Names(path, NamesFault::new(error)))
+            tell.problem(FILE, &Fault::Names(path, NamesFault::new(error)))
         }
     }
 }

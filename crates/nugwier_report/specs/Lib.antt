@@ -1,21 +1,28 @@
 -- what is said of a file
 pub mod Said
--- files that are no ELF files
-pub mod Formats
 -- what the code says, as what is said
 pub mod Noted
 -- a page of a report after something was told on it
-pub mod Leaves
+pub mod Sheets
 -- the texts of several things
 pub mod Texts
--- the text of problems: of the errors of the libraries, of the sections that they name, and of each problem
-pub mod ErrorTexts
+-- the text of problems, and of the sections that they name
 pub mod Labels
 pub mod Parts
 pub mod Problems
 -- what a report writes
 pub mod Told
--- which symbols are listed
-pub mod SymbolOptions
--- how a file is hardened
-pub mod Hardening
+-- the file that is loaded in part
+pub mod Whole
+-- what is said of what was read
+pub mod Reading
+-- the symbols for dynamic linking
+pub mod Linked
+-- the names of sections in headings
+pub mod Headings
+-- the sections of some types, each with its bytes
+pub mod TypedSections
+-- the sections that a word names
+pub mod NamedSections
+-- what was read, as the definitions have it
+pub mod inner

@@ -1,6 +1,6 @@
 -- The part of a file that a record is of.
 use Rattle.std.specs.Prelude.{ℕ, List, codes}
-use Rattle.nugwier_writing.specs.Members.{Content, nothing, number}
+use Rattle.nugwier_layouts.specs.Members.{Content, nothing, number}
 use Rattle.nugwier_report.specs.declared.problem.Part.{Part}
 use Rattle.nugwier_report.specs.declared.problem.Part.TheVariants as part
 use Rattle.nugwier_report.specs.declared.problem.RelocationTable.{RelocationTable}

@@ -3,24 +3,30 @@ use Rattle.std.specs.Prelude.{◌≡◌, ℕ, ◌+◌, Bool, true, false, List, 
 use Rattle.std.specs.List.{list_all}
 use Rattle.elf_records.specs.declared.parse.ParseError.{ParseError}
 use Rattle.nugwier_report.specs.Labels.{Named}
+use Rattle.nugwier_report.specs.Problems.{fault_text}
 use Rattle.nugwier_report.specs.declared.problem.Fault.{Fault}
 use Rattle.nugwier_report.specs.declared.problem.Fault.TheVariants.{Read}
 use Rattle.nugwier_report.specs.declared.problem.Item.TheVariants.{Whole}
 use Rattle.nugwier_report.specs.declared.problem.Part.{Part}
 use Rattle.nugwier_report.specs.declared.problem.Place.{Place}
 use Rattle.nugwier_report.specs.declared.report.Format.{Format}
-use Rattle.nugwier_writing.specs.Members.{Members}
-use Rattle.nugwier_writing.specs.declared.kind.Kind.{Kind}
+use Rattle.nugwier_layouts.specs.Members.{Members}
+use Rattle.nugwier_layouts.specs.Layouts.{Layout}
 
 pub data Said : Type 0 where
-  states : Kind → Members → Said
-  wrong : Place → Fault → Said
+  states : Layout → Members → Said
+  -- a problem, with the text of what is wrong, if this is stated
+  warns : Place → Option (List ℕ) → Said
 
 -- ---- problems
 
 -- a part as a whole
 abbrev pub whole : Part → Place
 whole part = record { part = part; item = Whole }
+
+-- that something is wrong at a place
+abbrev pub wrong : Place → Fault → Said
+wrong place fault = warns place (fault_text fault)
 
 -- what cannot be read is wrong
 abbrev pub unread : {A : Type 0} → Place → Result A ParseError → List Said
@@ -42,8 +48,8 @@ said_if said None = []
 -- ---- a report
 
 abbrev pub is_right_one : Said → Bool
-is_right_one (states kind members) = true
-is_right_one (wrong place fault) = false
+is_right_one (states layout members) = true
+is_right_one (warns place fault) = false
 
 -- whether nothing is wrong
 abbrev pub all_right : List Said → Bool

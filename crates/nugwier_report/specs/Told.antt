@@ -2,39 +2,37 @@
 use Rattle.std.specs.Prelude.{◌≡◌, ℕ, ◌&&◌, false, List, [], ◌∷◌, Option, Some, None, codes}
 use Rattle.std.specs.List.{list_all}
 use Rattle.elf_records.specs.declared.file.Class.{Class}
-use Rattle.nugwier_writing.specs.Json.{object}
-use Rattle.nugwier_writing.specs.Kinds.{is_heading, layout_of}
+use Rattle.nugwier_layouts.specs.Json.{object}
+use Rattle.nugwier_layouts.specs.Layouts.{Layout}
 use Rattle.nugwier_report.specs.Labels.{Named, label_of}
 use Rattle.nugwier_report.specs.Parts.{part_member}
 use Rattle.nugwier_report.specs.Problems.{IsTextAt, problem_line}
-use Rattle.nugwier_writing.specs.Members.{Content, Members, number, text}
-use Rattle.nugwier_report.specs.Said.{Line, Said, is_right_line, states, wrong}
-use Rattle.nugwier_writing.specs.Text.{bold_if, look_of, row_text}
+use Rattle.nugwier_layouts.specs.Members.{Content, Members, number, text}
+use Rattle.nugwier_report.specs.Said.{Line, Said, is_right_line, states, warns}
+use Rattle.nugwier_layouts.specs.Text.{bold_if, look_of, row_text}
 use Rattle.nugwier_report.specs.Texts.{AreAppended, Written}
-use Rattle.nugwier_writing.specs.declared.kind.Kind.{Kind}
 use Rattle.nugwier_report.specs.declared.problem.Part.{Part}
 use Rattle.nugwier_report.specs.declared.report.Format.{Format}
 use Rattle.nugwier_report.specs.declared.report.Format.TheVariants.{Json, Text}
 use Rattle.nugwier_report.specs.declared.report.Summary.{Summary}
-use Rattle.nugwier_writing.specs.declared.text.Style.{Style}
+use Rattle.nugwier_layouts.specs.declared.text.Style.{Style}
 
 -- ---- a record
 
--- an object, if its kind has a name
+-- an object, if its layout has a name
 abbrev pub object_if : List ℕ → Option (List ℕ) → Members → List ℕ
 object_if path (Some name) members = object path name members
 object_if path None members = []
 
 -- the row of a record
-abbrev pub text_of : Style → Class → Kind → Members → List ℕ
-text_of style class kind members =
-    bold_if (style.is_colored && is_heading kind)
-    (row_text (look_of style class) members (layout_of kind).columns (layout_of kind).end)
+abbrev pub text_of : Style → Class → Layout → Members → List ℕ
+text_of style class layout members =
+    bold_if (style.is_colored && layout.is_heading) (row_text (look_of style class) members layout.columns layout.end)
 
 -- in a file of this class
-abbrev pub record_line : Format → List ℕ → Class → Kind → Members → List ℕ
-record_line Json path class kind members = object_if path (layout_of kind).name members
-record_line (Text style) path class kind members = text_of style class kind members
+abbrev pub record_line : Format → List ℕ → Class → Layout → Members → List ℕ
+record_line Json path class layout members = object_if path layout.name members
+record_line (Text style) path class layout members = text_of style class layout members
 
 -- ---- a problem
 
@@ -53,9 +51,9 @@ problem_record (Text style) path place told = []
 
 -- what is written of what is said: in listings, and of a problem the same text elsewhere
 abbrev pub AreLines : Format → List ℕ → Named → Said → List ℕ → List ℕ → Type 0
-AreLines format path named (states kind members) line problem =
-    (line ≡ record_line format path named.class kind members) × (problem ≡ [])
-AreLines format path named (wrong place fault) line problem =
+AreLines format path named (states layout members) line problem =
+    (line ≡ record_line format path named.class layout members) × (problem ≡ [])
+AreLines format path named (warns place fault) line problem =
     (told : List ℕ) × IsTextAt (label_of named place.part) place fault told
     × (line ≡ problem_record format path (place_member (label_of named place.part) place.part) told)
     × (problem ≡ problem_line path told)

@@ -4,24 +4,14 @@
 ghost use Rattle.std.specs.Prelude.{◌≡◌};
 ghost use Rattle.nugwier_report.specs.Parts.{part_member, tag_name};
 ghost use Rattle.nugwier_report.specs.Said.{whole};
-ghost use Rattle.nugwier_writing.specs.Members.{member_said};
+ghost use Rattle.nugwier_layouts.specs.Members.{member_said};
 ghost use Rattle.nugwier_report.specs.declared.problem.Stop.TheVariants.{Memory as IsMemory, Write as IsWrite};
 
-use crate::error_texts::{
-    FileText, LinkedText, ObjectText, PlanText, ReadText, SectionText, UsesText,
-};
-use crate::hardening::Requirement;
-use crate::quoted::{NamesFault, Quoted, QuotedSymbol, UnknownBinding};
-use elf_attributes::attributes::AttributeError;
-use elf_check::faults::{FileFault, SectionFault};
+use crate::quoted::Quoted;
 use elf_dynamic::dynamic_view::DynamicError;
-use elf_linking::bindings::uses::UsesError;
-use elf_linking::resolve::ObjectFault;
 use elf_parts::parse::ParseError;
-use elf_tools::debug_link::DebugLinkError;
-use elf_tools::load_plan::PlanError;
-use nugwier_writing::escape::Escaped;
-use nugwier_writing::json::{Member, Value};
+use nugwier_layouts::escape::Escaped;
+use nugwier_layouts::json::{Member, Value};
 use std::alloc::{AllocError, AllocFailed};
 use std::{fmt, io};
 
@@ -139,128 +129,52 @@ pub struct Place {
     pub item: Item,
 }
 
-/// What is wrong at a place.
+/// What is wrong at a place, of what many parts of a file have in common. Others are told by types of their own: each error
+/// has a text (`Display`).
 #[derive(Debug, Drop)]
-pub enum Fault<'a> {
+pub enum Fault {
     /// It cannot be read.
     Read(ParseError),
-    /// The file has no bytes in this range, given by its start and its end, but this number of bytes.
-    PastEnd((usize, usize), usize),
-    /// It is no ELF file.
-    NotElf,
-    /// It is no ELF file, but one of this format.
-    OtherFormat(Quoted<'a>),
     /// It is not available through the segments.
     Linked(DynamicError),
-    /// The error of the system.
-    System(io::Error),
     /// The file has no such part.
     Missing,
     /// It is not listed, since what was listed of its kind has as many bytes as the file.
     Repeated,
-    /// There are too many to list those of each segment.
-    TooMany,
     /// The chains of a hash section have more symbols than the section has chain words.
     LongChains,
-    /// Its build attributes cannot be read on.
-    Attributes(AttributeError),
-    /// Its link to a file with debug information cannot be read.
-    DebugLink(DebugLinkError),
-    /// No entry gives the address of the strings.
-    NoAddress,
-    /// No entry gives the size of the strings.
-    NoSize,
-    /// No loaded segment has the strings, which begin at this address, in the file.
-    NotLoaded(u64),
-    /// No symbol has the address.
-    NoSymbol,
-    /// No section has this name or this number.
-    NoSection(Quoted<'a>),
-    /// An address of a relocatable file is an offset in a section, and none is given.
-    NeedsSection,
-    /// Its segments cannot be mapped.
-    Plan(PlanError),
-    /// A section of a file that is not sound.
-    Section(SectionFault),
-    /// Another fault of a file that is not sound.
-    File(FileFault),
-    /// It does not meet what is required of it.
-    Lacks(Requirement),
-    /// A library of this name, which the object at the second path needs, is not found.
-    NotFound(Quoted<'a>, Quoted<'a>),
-    /// The names of the object at this path are not available.
-    Names(Quoted<'a>, NamesFault<'a>),
-    /// The object at this path was found, and then it could not be read.
-    Unread(Quoted<'a>),
-    /// Symbols cannot be looked up in the object at this path.
-    Object(Quoted<'a>, ObjectFault),
-    /// The object at this path has symbols and no hash section, so these cannot be looked up.
-    NoHash(Quoted<'a>),
-    /// The relocations of the object at this path are not known.
-    Relocations(Quoted<'a>, UsesError),
-    /// A symbol of the object at this path binds to nothing.
-    MissingSymbol(Quoted<'a>, QuotedSymbol<'a>),
-    /// It is not known what a symbol of the object at this path binds to.
-    UnknownSymbol(Quoted<'a>, QuotedSymbol<'a>, UnknownBinding<'a>),
-    /// The same, since the version of a symbol of the object at the second path cannot be read.
-    UnknownVersion(Quoted<'a>, QuotedSymbol<'a>, Quoted<'a>, usize),
 }
 
-impl fmt::Display for Fault<'_> {
+impl fmt::Display for Fault {
     ghost use Rattle.nugwier_report.specs.Problems.{fault_text};
 
     ghost output = { fault_text };
 
     fn fmt<W: fmt::Write>(&self, f: &mut fmt::Formatter<W>) -> fmt::Result {
         match self {
-            Fault::Read(error) => write!(f, "{}", ReadText(error)),
-            Fault::PastEnd((start, end), len) => write!(
-                f,
-                "not in the file: bytes 0x{start:x} to 0x{end:x} of 0x{len:x}; it may be cut short"
-            ),
-            Fault::NotElf => f.write_str("not an ELF file"),
-            Fault::OtherFormat(name) => write!(f, "not an ELF file ({name})"),
-            Fault::Linked(error) => write!(f, "{}", LinkedText(error)),
-            Fault::System(error) => write!(f, "{error}"),
+            Fault::Read(error) => write!(f, "{error}"),
+            Fault::Linked(error) => write!(f, "{error}"),
             Fault::Missing => f.write_str("the file has none"),
             Fault::Repeated => {
                 f.write_str("left out: those up to here have more bytes than the file")
             }
-            Fault::TooMany => f.write_str("too many to list those of each segment"),
             Fault::LongChains => f.write_str("its chains do not end, or share symbols"),
-            Fault::Attributes(error) => write!(f, "{error}"),
-            Fault::DebugLink(error) => write!(f, "{error}"),
-            Fault::NoAddress => f.write_str("no entry DT_STRTAB gives their address"),
-            Fault::NoSize => f.write_str("no entry DT_STRSZ gives their size"),
-            Fault::NotLoaded(address) => {
-                write!(f, "no segment of type PT_LOAD has them at 0x{address:x}")
-            }
-            Fault::NoSymbol => f.write_str("no symbol starts there or before it"),
-            Fault::NoSection(name) => write!(f, "no section {name}"),
-            Fault::NeedsSection => {
-                f.write_str("in a relocatable file an address needs a section, as SECTION:ADDRESS")
-            }
-            Fault::Plan(error) => write!(f, "{}", PlanText(error)),
-            Fault::Section(fault) => write!(f, "{}", SectionText(*fault)),
-            Fault::File(fault) => write!(f, "{}", FileText(*fault)),
-            Fault::Lacks(requirement) => f.write_str(requirement.lack()),
-            Fault::NotFound(name, path) => write!(f, "{name}, which {path} needs, is not found"),
-            Fault::Names(path, error) => write!(f, "names of {path}: {error}"),
-            Fault::Unread(path) => write!(f, "symbols of {path}: the file can no longer be read"),
-            Fault::Object(path, fault) => write!(f, "symbols of {path}: {}", ObjectText(fault)),
-            Fault::NoHash(path) => write!(f, "symbols of {path}: no hash section"),
-            Fault::Relocations(path, error) => {
-                write!(f, "relocations of {path}: {}", UsesText(error))
-            }
-            Fault::MissingSymbol(path, symbol) => write!(f, "symbol {symbol} of {path}: missing"),
-            Fault::UnknownSymbol(path, symbol, fault) => {
-                write!(f, "symbol {symbol} of {path}: {fault}")
-            }
-            Fault::UnknownVersion(path, symbol, other, version) => write!(
-                f,
-                "symbol {symbol} of {path}: {other}: version of symbol {version} cannot be read"
-            ),
         }
+    }
+}
+
+/// That no section has this name or this number.
+#[derive(Debug, Drop)]
+pub struct NoSection<'a>(pub Quoted<'a>);
+
+impl fmt::Display for NoSection<'_> {
+    ghost use Rattle.nugwier_report.specs.Problems.{no_section_text};
+
+    ghost output = { λ none. no_section_text none.0 };
+
+    fn fmt<W: fmt::Write>(&self, f: &mut fmt::Formatter<W>) -> fmt::Result {
+        let name = &self.0;
+        write!(f, "no section {name}")
     }
 }
 

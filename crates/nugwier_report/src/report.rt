@@ -1,29 +1,29 @@
 //! A report of many files: what is said of each is written as it comes.
 #![tactic(auto, using(crate::proofs::Saying::saying_both))]
 
-ghost use Rattle.std.specs.Prelude.{◌≡◌, [], ◌++◌, false, IfOk, OnOk, string_bytes};
+ghost use Rattle.std.specs.Prelude.{◌≡◌, [], false, IfOk, OnOk, string_bytes};
+ghost use Rattle.nugwier_layouts.specs.Layouts.{layout_of};
 ghost use Rattle.std.specs.Io.KnownBytes.{Appends};
 ghost use Rattle.std.specs.List.{list_all};
-ghost use Rattle.nugwier_writing.specs.Kinds.{layout_of};
 ghost use Rattle.nugwier_report.specs.Labels.{label_seen};
-ghost use Rattle.nugwier_writing.specs.Members.{member_said, members_said};
+ghost use Rattle.nugwier_layouts.specs.Members.{member_said, members_said};
 ghost use Rattle.nugwier_report.specs.Problems.{IsTextAt, problem_line};
 ghost use Rattle.nugwier_report.specs.Said.{is_right_line};
 ghost use Rattle.nugwier_report.specs.Texts.{AreAppended};
 ghost use Rattle.nugwier_report.specs.Told.{AreTextsOfLine, object_if, place_member, problem_record, record_line, text_of};
 
-use crate::log::{Log, Note};
-use crate::problem::{Fault, Part, Place, Stop, Told, part_member};
+use crate::log::Log;
+use crate::problem::{Part, Place, Stop, Told, part_member};
 use crate::run::{Page, Run};
 use elf_parts::file::Class;
-use nugwier_writing::escape::Escaped;
-use nugwier_writing::json::{Member, Value, write_object};
-use nugwier_writing::kind::Kind;
-use nugwier_writing::text::{Style, write_row};
+use nugwier_layouts::escape::Escaped;
+use nugwier_layouts::json::{Member, Value, write_object};
+use nugwier_layouts::layouts::Layout;
+use nugwier_layouts::text::{Style, write_row};
 use std::alloc::Global;
-use std::io;
 use std::io::Write;
 use std::marker::Model;
+use std::{fmt, io};
 
 /// How records are written.
 #[derive(Debug, Clone, Copy)]
@@ -134,14 +134,19 @@ impl<W: Write, V: Write> Run for Report<W, V> {
 
     ghost one = { also_said };
 
-    fn state(&mut self, page: &Page<'_>, kind: Kind, members: &[Member<'_>]) -> Result<(), Stop> {
-        self.log = self.log.then(&Note::States(page, kind, members));
+    fn state(
+        &mut self,
+        page: &Page<'_>,
+        layout: &'static Layout,
+        members: &[Member<'_>],
+    ) -> Result<(), Stop> {
+        self.log = self.log.states(page, layout, members);
         let class = page.labels.class;
         if let Err(error) = write_record(
             page.path,
             self.format,
             class,
-            kind,
+            layout,
             members,
             &mut self.out,
         ) {
@@ -152,10 +157,15 @@ impl<W: Write, V: Write> Run for Report<W, V> {
     }
 
     // An error of the writer for problems is no reason to stop.
-    fn problem(&mut self, page: &Page<'_>, place: Place, fault: Fault<'_>) -> Result<(), Stop> {
+    fn problem<D: fmt::Display>(
+        &mut self,
+        page: &Page<'_>,
+        place: Place,
+        fault: &D,
+    ) -> Result<(), Stop> {
         let section = page.labels.of(place.part);
-        let text = problem_text(self.alloc, place, section, &fault)?;
-        self.log = self.log.then(&Note::Wrong(&*page, place, &fault));
+        let text = problem_text(self.alloc, place, section, fault)?;
+        self.log = self.log.wrong(page, place, fault);
         self.is_right = false;
         let member = place_member(section, place.part);
         if let Err(error) = write_problem(
@@ -180,16 +190,16 @@ fn write_record<W: Write>(
     path: &str,
     format: Format,
     class: Class,
-    kind: Kind,
+    layout: &'static Layout,
     members: &[Member<'_>],
     out: &mut W,
 ) -> io::Result<()>
     ensures { OnOk result (Appends (W.contents out.old) (W.contents out.new)
-        (record_line format path.now class kind (members_said members.now))) }
+        (record_line format path.now class (layout_of layout.now) (members_said members.now))) }
 {
     match format {
-        Format::Json => write_named(path, kind, members, out),
-        Format::Text(style) => write_text(style, class, kind, members, out),
+        Format::Json => write_named(path, layout, members, out),
+        Format::Text(style) => write_text(style, class, layout, members, out),
     }
 }
 
@@ -197,41 +207,41 @@ fn write_record<W: Write>(
 fn write_text<W: Write>(
     style: Style,
     class: Class,
-    kind: Kind,
+    layout: &'static Layout,
     members: &[Member<'_>],
     out: &mut W,
 ) -> io::Result<()>
     ensures { OnOk result (Appends (W.contents out.old) (W.contents out.new)
-        (text_of style class kind (members_said members.now))) }
+        (text_of style class (layout_of layout.now) (members_said members.now))) }
 {
-    let (_, columns, end) = *kind.layout();
-    write_row(style, class, kind.is_heading(), columns, end, members, out)
+    let (_, is_heading, columns, end) = *layout;
+    write_row(style, class, is_heading, columns, end, members, out)
 }
 
-// Writes an object, if the kind of the record has a name.
+// Writes an object, if the layout of the record has a name.
 fn write_named<W: Write>(
     path: &str,
-    kind: Kind,
+    layout: &'static Layout,
     members: &[Member<'_>],
     out: &mut W,
 ) -> io::Result<()>
     ensures { OnOk result (Appends (W.contents out.old) (W.contents out.new)
-        (object_if path.now (layout_of kind).name (members_said members.now))) }
+        (object_if path.now (layout_of layout.now).name (members_said members.now))) }
 {
-    match kind.layout().0 {
+    match layout.0 {
         Some(name) => write_object(path, name, members, out),
         None => Ok(()),
     }
 }
 
 // What is told of a problem at a place, in this section.
-fn problem_text(
+fn problem_text<D: fmt::Display>(
     alloc: Global,
     place: Place,
     section: Option<(u64, &[u8])>,
-    fault: &Fault<'_>,
+    fault: &D,
 ) -> Result<String, Stop>
-    ensures { IfOk result (λ told. IsTextAt (label_seen section.entry) place fault.now (string_bytes told)) }
+    ensures { IfOk result (λ told. IsTextAt (label_seen section.entry) place (D.output fault.now) (string_bytes told)) }
 {
     let fault = format!(in alloc; "{fault}")?;
     let told = Told {

@@ -1,7 +1,7 @@
 //! Tables: a record for each item.
 #![tactic(auto, using(crate::proofs::Saying::saying_both))]
 
-ghost use Rattle.std.specs.Prelude.{◌≡◌, ◌-◌, ◌^◌, ◌++◌, ℕ, List, OnOk};
+ghost use Rattle.std.specs.Prelude.{◌≡◌, ◌-◌, ◌^◌, ℕ, List, OnOk};
 ghost use Rattle.std.specs.Iterator.{Drains, UpTo};
 ghost use Rattle.elf_records.specs.Table.{items_left};
 ghost use Rattle.nugwier_report.specs.Said.{Said, numbered, saying};

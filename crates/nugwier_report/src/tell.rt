@@ -2,14 +2,16 @@
 #![tactic(auto, using(crate::proofs::Saying::saying_both))]
 
 ghost use Rattle.std.specs.Prelude.{◌≡◌, true, Bool, IfOk, OnOk};
+ghost use Rattle.nugwier_layouts.specs.Layouts.{layout_of};
 ghost use Rattle.std.specs.Result.{result_ok};
-ghost use Rattle.nugwier_writing.specs.Members.{members_said};
-ghost use Rattle.nugwier_report.specs.Said.{Said, saying, states, unread, wrong};
+ghost use Rattle.nugwier_layouts.specs.Members.{members_said};
+ghost use Rattle.nugwier_report.specs.Said.{Said, saying, states, unread, warns};
 
-use crate::problem::{Fault, Place, Stop};
+use crate::problem::{Place, Stop};
 use elf_parts::parse::ParseError;
-use nugwier_writing::json::Member;
-use nugwier_writing::kind::Kind;
+use nugwier_layouts::json::Member;
+use nugwier_layouts::layouts::Layout;
+use std::fmt;
 
 /// A teller.
 pub trait Tell {
@@ -25,13 +27,13 @@ pub trait Tell {
         ensures nothing { result ≡ true → (said : Said) → one self.now said ≡ self.now };
 
     /// Tells a record. The only error is that of a writer.
-    fn state(&mut self, kind: Kind, members: &[Member<'_>]) -> Result<(), Stop>
-        ensures { OnOk result (self.new ≡ one self.old (states kind (members_said members.now))) };
+    fn state(&mut self, layout: &'static Layout, members: &[Member<'_>]) -> Result<(), Stop>
+        ensures { OnOk result (self.new ≡ one self.old (states (layout_of layout.now) (members_said members.now))) };
 
     /// Tells what is wrong at a place, after what was told before. The only errors are that of a writer, and that there
     /// is no memory for the text.
-    fn problem(&mut self, place: Place, fault: Fault<'_>) -> Result<(), Stop>
-        ensures { OnOk result (self.new ≡ one self.old (wrong place fault.entry)) };
+    fn problem<D: fmt::Display>(&mut self, place: Place, fault: &D) -> Result<(), Stop>
+        ensures { OnOk result (self.new ≡ one self.old (warns place (D.output fault.now))) };
 }
 
 /// A teller of whom nothing comes. What is told to it shows only what is missing of a file that is read by parts.
@@ -49,11 +51,11 @@ impl Tell for Silent {
         true
     }
 
-    fn state(&mut self, _kind: Kind, _members: &[Member<'_>]) -> Result<(), Stop> {
+    fn state(&mut self, _layout: &'static Layout, _members: &[Member<'_>]) -> Result<(), Stop> {
         Ok(())
     }
 
-    fn problem(&mut self, _place: Place, _fault: Fault<'_>) -> Result<(), Stop> {
+    fn problem<D: fmt::Display>(&mut self, _place: Place, _fault: &D) -> Result<(), Stop> {
         Ok(())
     }
 }
@@ -70,7 +72,7 @@ pub fn readable<A: Drop, T: Tell>(
     match read {
         Ok(value) => Ok(Some(value)),
         Err(error) => {
-            tell.problem(place, Fault::Read(error))?;
+            tell.problem(place, &error)?;
             Ok(None)
         }
     }

@@ -10,7 +10,7 @@ use Rattle.elf.specs.ElfStream.{IsOfFile, StreamView, opened_as}
 use Rattle.elf.specs.Loaded.{AreLoadedOf, streamed_file}
 use Rattle.elf_check.specs.declared.faults.FileFault.{FileFault}
 use Rattle.nugwier_sections.specs.Check.{AreContentFaults, AreFoundFaults, AreOpenedFaults, AreReadFaults, AreFaultsOf}
-use Rattle.nugwier_taking.specs.Whole.{range_by, stream_range, file_of}
+use Rattle.nugwier_report.specs.Whole.{range_by, stream_range, file_of}
 
 all_read : (bytes : List ℕ) → length bytes < 2 ^ 64 → bytes_at (length bytes) bytes 0 ≡ Ok bytes
 all_read bytes fits = bytes_at-from (length bytes) bytes 0 (omega (arith, fits)) (omega arith) ∙ ap Ok (take_all (length bytes) bytes (omega arith))

@@ -1,3 +1,4 @@
 pub mod CheckedContent
-mod NoteEnds
 pub mod Told
+pub mod FaultsSaid
+pub mod Strings

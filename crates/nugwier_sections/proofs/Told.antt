@@ -4,21 +4,21 @@ use Rattle.elf_records.specs.Number.{ok_map}
 use Rattle.elf_records.specs.declared.parse.ParseError.{ParseError}
 use Rattle.elf.specs.ObjectFile.{ObjectFile}
 use Rattle.elf_check.specs.declared.faults.FileFault.{FileFault}
-use Rattle.elf_tools.specs.LoadPlan.{IsPlan, IsTrueOfPlan, mappings}
+use Rattle.elf_tools.specs.LoadPlan.{IsPlan, IsTrueOfPlan, error_text, mappings}
 use Rattle.elf_tools.specs.declared.load_plan.Mapping.{Mapping}
 use Rattle.elf_tools.specs.declared.load_plan.PlanError.{PlanError}
 use Rattle.elf_tools.specs.declared.load_plan.PlanError.TheVariants.{AddressSpace, FileSize, Memory, OutsideFile, Overlap}
 use Rattle.nugwier_sections.specs.Check.{AreFoundSaid, AreReadFaults, IsCheckSaid}
 use Rattle.nugwier_sections.specs.Plan.{IsPlanSaid, mappings_said}
-use Rattle.nugwier_report.specs.Said.{IsToldAs, Said, saying, whole, wrong}
-use Rattle.nugwier_report.specs.declared.problem.Fault.TheVariants.{Plan, Read}
+use Rattle.nugwier_report.specs.Said.{IsToldAs, Said, saying, warns, whole, wrong}
+use Rattle.nugwier_report.specs.declared.problem.Fault.TheVariants.{Read}
 use Rattle.nugwier_report.specs.declared.problem.Part.TheVariants.{File, LoadPlan}
 use Rattle.nugwier_report.specs.declared.problem.Place.{Place}
 
 pub mapped : (file : ObjectFile) (all shown : List Mapping) → (all ≡ mappings file.segments) × IsPlan file.class file.size (mappings file.segments) → shown ≡ all → IsPlanSaid file (mappings_said shown)
 mapped file all shown (are, plan) same = (Ok all, (are, subst (λ (m : List Mapping). IsPlan file.class file.size m) (sym are) plan), ap mappings_said same)
 
-pub not_mapped : (file : ObjectFile) (e : PlanError) → (e ≡ Memory → ⊥) → IsTrueOfPlan file.class file.size (mappings file.segments) e → IsPlanSaid file (wrong (whole LoadPlan) (Plan e) ∷ [])
+pub not_mapped : (file : ObjectFile) (e : PlanError) → (e ≡ Memory → ⊥) → IsTrueOfPlan file.class file.size (mappings file.segments) e → IsPlanSaid file (warns (whole LoadPlan) (error_text e) ∷ [])
 not_mapped file (FileSize k) full h = (Err (FileSize k), h, refl)
 not_mapped file (OutsideFile k) full h = (Err (OutsideFile k), h, refl)
 not_mapped file (AddressSpace k) full h = (Err (AddressSpace k), h, refl)
@@ -39,6 +39,6 @@ not_checked path found e place same is = subst (λ (r : Result (Vec FileFault Gl
 
 -- that there is no plan was told, and not for want of memory
 pub refused : {A X E : Type 0} (silent : A → Bool) (one : A → Said → A) (file : ObjectFile) (r : Result X E) (e : PlanError) (before after : A) → IsTrueOfPlan file.class file.size (mappings file.segments) e
-    → OnOk r (e ≡ Memory → ⊥) → OnOk r (after ≡ saying one before (wrong (whole LoadPlan) (Plan e) ∷ [])) → OnOk r (IsToldAs silent one (IsPlanSaid file) before after)
-refused silent one file (Ok x) e before after is full told = λ loud. (wrong (whole LoadPlan) (Plan e) ∷ [], not_mapped file e full is, told)
+    → OnOk r (e ≡ Memory → ⊥) → OnOk r (after ≡ saying one before (warns (whole LoadPlan) (error_text e) ∷ [])) → OnOk r (IsToldAs silent one (IsPlanSaid file) before after)
+refused silent one file (Ok x) e before after is full told = λ loud. (warns (whole LoadPlan) (error_text e) ∷ [], not_mapped file e full is, told)
 refused silent one file (Err x) e before after is full told = tt

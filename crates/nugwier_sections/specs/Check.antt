@@ -6,7 +6,7 @@ use Rattle.elf.specs.ObjectFile.{ObjectFile, object_file}
 use Rattle.elf_check.specs.AllFaults.{AreAllFaults}
 use Rattle.elf_check.specs.declared.faults.FileFault.{FileFault}
 use Rattle.nugwier_report.specs.Said.{Said, whole, wrong}
-use Rattle.nugwier_records.specs.Verdicts.{IsVerdictSaid}
+use Rattle.nugwier_sections.specs.Verdicts.{IsVerdictSaid}
 use Rattle.nugwier_report.specs.declared.problem.Fault.TheVariants.{Read}
 use Rattle.nugwier_report.specs.declared.problem.Part.TheVariants.{File}
 

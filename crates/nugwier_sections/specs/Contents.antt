@@ -1,38 +1,43 @@
 -- What is said of the content of sections.
-use Rattle.std.specs.Prelude.{ℕ, ◌==◌, nat_lt, if◌then◌else◌, Option, Some, None, Result, Ok, Err}
+use Rattle.std.specs.Prelude.{ℕ, ◌==◌, nat_lt, if◌then◌else◌, Option, Result, Ok, Err}
 use Rattle.std.specs.Prelude.{List, [], ◌∷◌, ◌++◌, length}
 use Rattle.std.specs.List.{flat_map}
 use Rattle.elf_abi.specs.Values.{sht_nobits}
-use Rattle.elf_records.specs.Number.{ok_map}
 use Rattle.elf_records.specs.declared.compression.CompressionHeader.{CompressionHeader}
 use Rattle.elf_records.specs.declared.parse.ParseError.{ParseError}
 use Rattle.elf_records.specs.declared.section.SectionHeader.{SectionHeader}
 use Rattle.elf.specs.Data.{content, section_data}
 use Rattle.elf.specs.ObjectFile.{ObjectFile}
-use Rattle.nugwier_taking.specs.Headings.{heading_members, known_names}
-use Rattle.nugwier_taking.specs.Named.{sections_of}
+use Rattle.nugwier_report.specs.Headings.{heading_members, known_names}
+use Rattle.nugwier_report.specs.NamedSections.{sections_of}
 use Rattle.nugwier_report.specs.Labels.{label_name}
-use Rattle.nugwier_taking.specs.TypedSections.{left_after}
-use Rattle.nugwier_taking.specs.Read.{given_said}
-use Rattle.nugwier_records.specs.Contents.{compression_said, data_said, strings_said}
-use Rattle.nugwier_report.specs.Said.{Said, said_if, states, whole, wrong}
-use Rattle.nugwier_writing.specs.declared.kind.Kind.{Kind}
-use Rattle.nugwier_writing.specs.declared.kind.Kind.TheVariants.{BytesHeading, EmptySection, NoBytes, StringsHeading}
+use Rattle.nugwier_report.specs.TypedSections.{left_after}
+use Rattle.nugwier_report.specs.Reading.{given_said}
+use Rattle.nugwier_sections.specs.ContentRows.{compression_said, data_said, strings_said}
+use Rattle.nugwier_report.specs.Said.{Said, said_if, states, warns, whole}
 use Rattle.nugwier_report.specs.declared.problem.Fault.{Fault}
-use Rattle.nugwier_report.specs.declared.problem.Fault.TheVariants.{NoSection, Read, Repeated}
+use Rattle.nugwier_report.specs.declared.problem.Fault.TheVariants.{Read, Repeated}
+use Rattle.nugwier_report.specs.Problems.{no_section_text}
 use Rattle.nugwier_report.specs.declared.problem.Part.TheVariants.{File, Section}
-use Rattle.nugwier_words.specs.declared.words.Form.{Form}
-use Rattle.nugwier_words.specs.declared.words.Form.TheVariants.{Bytes, Strings}
+use Rattle.nugwier_sections.specs.declared.contents.Form.{Form}
+use Rattle.nugwier_sections.specs.declared.contents.Wanted.{Wanted}
+use Rattle.nugwier_sections.specs.declared.contents.Form.TheVariants.{Bytes, Strings}
+use Rattle.nugwier_layouts.specs.Layouts.{Layout, constant}
+use Rattle.nugwier_layouts.specs.declared.layouts.TheConstants as layout
+
+-- the content of a section, by its name or its number
+abbrev pub wanted_view : Wanted → Form × List ℕ
+wanted_view wanted = (wanted.form, wanted.section.now)
 
 -- ---- what is said of one
 
-abbrev pub heading_of : Form → Kind
-heading_of Bytes = BytesHeading
-heading_of Strings = StringsHeading
+abbrev pub heading_of : Form → Layout
+heading_of Bytes = constant layout.BYTES_HEADING
+heading_of Strings = constant layout.STRINGS_HEADING
 
 -- that section s has no bytes in the file, or is empty
 abbrev pub none_said : SectionHeader → List ℕ → List Said
-none_said s [] = states (if s.sh_type == sht_nobits then NoBytes else EmptySection) [] ∷ []
+none_said s [] = states (if s.sh_type == sht_nobits then constant layout.NO_BYTES else constant layout.EMPTY_SECTION) [] ∷ []
 none_said s (b ∷ bytes) = []
 
 -- the bytes of section k, or their strings
@@ -72,7 +77,7 @@ sections_said file names form left (one ∷ more) =
 
 -- or that there is no such section
 abbrev pub found_said : ObjectFile → Option (List ℕ) → Form → List ℕ → List (ℕ × SectionHeader) → List Said
-found_said file names form word [] = wrong (whole File) (NoSection word) ∷ []
+found_said file names form word [] = warns (whole File) (no_section_text word) ∷ []
 found_said file names form word (one ∷ more) = sections_said file names form file.size (one ∷ more)
 
 -- of the sections that a word names

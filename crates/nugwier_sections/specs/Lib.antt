@@ -1,15 +1,23 @@
--- what is said of each part of a file
-pub mod Identity
+-- the file header
+pub mod Header
+-- the build id
+pub mod BuildId
+-- what a loader maps
+pub mod MappingRows
 pub mod Plan
+-- the sections
+pub mod SectionRows
 pub mod Sections
+-- the segments, and the sections of each
+pub mod SegmentRows
+pub mod SegmentSections
 pub mod Segments
--- the build attributes
-pub mod Attributes
+-- the content of sections
+pub mod ContentRows
+pub mod Contents
 -- the links to files with debug information
+pub mod DebugLinkRows
 pub mod DebugLinks
 -- what is said of a file that is checked
+pub mod Verdicts
 pub mod Check
--- the notes
-pub mod Notes
--- the content of sections
-pub mod Contents

@@ -7,19 +7,20 @@ use Rattle.elf_records.specs.Record.{◌>>=◌}
 use Rattle.elf_records.specs.StringTable.{string_at}
 use Rattle.elf_records.specs.declared.parse.ParseError.{ParseError}
 use Rattle.elf_records.specs.declared.segment.ProgramHeader.{ProgramHeader}
-use Rattle.nugwier_taking.specs.Headings.{count_members, known_names}
-use Rattle.nugwier_taking.specs.Read.{read_said}
+use Rattle.nugwier_report.specs.Headings.{count_members, known_names}
+use Rattle.nugwier_report.specs.Reading.{read_said}
 use Rattle.nugwier_report.specs.Said.{Said, numbered, states}
-use Rattle.nugwier_records.specs.SegmentSections.{segments_sections_said}
-use Rattle.nugwier_records.specs.Segments.{interpreter_said, segment_said}
-use Rattle.nugwier_writing.specs.declared.kind.Kind.TheVariants as kind
+use Rattle.nugwier_sections.specs.SegmentSections.{segments_sections_said}
+use Rattle.nugwier_sections.specs.SegmentRows.{interpreter_said, segment_said}
 use Rattle.nugwier_report.specs.declared.problem.Part.TheVariants.{Segment}
+use Rattle.nugwier_layouts.specs.Layouts.{constant}
+use Rattle.nugwier_layouts.specs.declared.layouts.TheConstants as layout
 
 -- nothing if there are none, else a heading and each
 abbrev pub segments_said : ℕ → List ProgramHeader → List Said
 segments_said machine [] = []
 segments_said machine (p ∷ ps) =
-    states kind.SegmentsHeading (count_members (length (p ∷ ps))) ∷ numbered (segment_said machine) 0 (p ∷ ps)
+    states (constant layout.SEGMENTS_HEADING) (count_members (length (p ∷ ps))) ∷ numbered (segment_said machine) 0 (p ∷ ps)
 
 -- the path of a program in the bytes of a segment, up to a 0 byte (gABI, chapter "Dynamic Linking", "Program Interpreter")
 abbrev pub path_in : Result (List ℕ) ParseError → Result (List ℕ) ParseError

@@ -12,18 +12,18 @@ ghost use Rattle.elf_check.specs.AllFaults.{AreAllFaults};
 ghost use Rattle.elf_check.specs.declared.faults.FileFault.{FileFault};
 ghost use Rattle.nugwier_sections.specs.Check.{AreContentFaults, AreFaultsOf, AreFoundSaid, AreOpenedFaults};
 ghost use Rattle.nugwier_sections.specs.Check.{IsCheckSaid};
-ghost use Rattle.nugwier_taking.specs.Whole.{stream_range, file_of};
+ghost use Rattle.nugwier_report.specs.Whole.{stream_range, file_of};
 ghost use Rattle.nugwier_report.specs.Said.{IsToldAs, Said, saying};
 
+use crate::verdicts::tell_verdict;
 use elf::endian::EndianParse;
 use elf::{ElfBytes, ElfStream, ParseError, StreamSource};
 use elf_check::all_faults_in;
 use elf_check::faults::FileFault;
-use nugwier_records::verdicts::tell_verdict;
-use nugwier_report::problem::{Fault, Part, Stop};
+use nugwier_report::listed::ListedFile;
+use nugwier_report::problem::{Part, Stop};
+use nugwier_report::reading;
 use nugwier_report::tell::Tell;
-use nugwier_taking::listed::ListedFile;
-use nugwier_taking::taking;
 use std::alloc::{AllocError, Global};
 
 // All faults of a file, or why it cannot be read whole.
@@ -39,13 +39,13 @@ pub fn tell_check<E: EndianParse, R: ListedFile<E>, T: Tell>(
     ensures { OnOk result (IsToldAs T.silent T.one
         (IsCheckSaid E.little E.of_byte path.now (file_of (R.file file.now) (R.bytes file.now))) tell.old tell.new) }
 {
-    let bytes = taking::whole_bytes(file)?;
+    let bytes = reading::whole_bytes(file)?;
     if tell.is_silent() {
         return Ok(());
     }
     match bytes {
         Ok(bytes) => tell_checked(alloc, path, checked::<E>(alloc, bytes)?, tell),
-        Err(error) => tell.problem(Part::File.whole(), Fault::Read(error)),
+        Err(error) => tell.problem(Part::File.whole(), &error),
     }
 }
 
@@ -115,6 +115,6 @@ fn tell_checked<T: Tell>(
 {
     match checked {
         Ok(faults) => tell_verdict(alloc, path, faults.as_slice(), tell),
-        Err(error) => tell.problem(Part::File.whole(), Fault::Read(error)),
+        Err(error) => tell.problem(Part::File.whole(), &error),
     }
 }

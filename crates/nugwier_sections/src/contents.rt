@@ -7,12 +7,14 @@ ghost use Rattle.elf_reading.specs.Leading.{data_view};
 ghost use Rattle.elf_records.specs.Number.{ok_map};
 ghost use Rattle.nugwier_sections.specs.Contents.{bytes_said, content_said, heading_of, none_said, said_of_contents};
 ghost use Rattle.nugwier_sections.specs.Contents.{section_said, sections_said, wanted_said, within};
-ghost use Rattle.nugwier_taking.specs.TypedSections.{left_after};
-ghost use Rattle.nugwier_taking.specs.Whole.{file_of};
-ghost use Rattle.nugwier_records.specs.Contents.{compression_said};
+ghost use Rattle.nugwier_report.specs.TypedSections.{left_after};
+ghost use Rattle.nugwier_report.specs.Whole.{file_of};
+ghost use Rattle.nugwier_sections.specs.ContentRows.{compression_said};
 ghost use Rattle.nugwier_report.specs.Said.{said_if, saying};
-ghost use Rattle.nugwier_words.specs.Words.{wanted_view};
+ghost use Rattle.nugwier_sections.specs.Contents.{wanted_view};
+ghost use Rattle.nugwier_layouts.specs.Layouts.{layout_of};
 
+use crate::content_rows::{tell_compression, tell_data, tell_strings};
 use elf::compression::CompressionHeader;
 use elf::endian::EndianParse;
 use elf::headers::Headers;
@@ -20,21 +22,34 @@ use elf::reader::Reader;
 use elf::section::SectionHeader;
 use elf::string_table::TerminatedStrings;
 use elf::{ParseError, abi};
-use nugwier_records::contents::{tell_compression, tell_data, tell_strings};
+use nugwier_layouts::layouts;
+use nugwier_layouts::layouts::Layout;
+use nugwier_report::headings::{heading_members, known_names};
+use nugwier_report::listed::ListedFile;
+use nugwier_report::named_sections::sections_of;
 use nugwier_report::names::label_name;
-use nugwier_report::problem::{Fault, Part, Stop};
+use nugwier_report::problem::{Fault, NoSection, Part, Stop};
 use nugwier_report::quoted::Quoted;
+use nugwier_report::reading;
 use nugwier_report::tell::Tell;
-use nugwier_taking::headings::{heading_members, known_names};
-use nugwier_taking::listed::ListedFile;
-use nugwier_taking::named::sections_of;
-use nugwier_taking::taking;
-use nugwier_words::words::{Form, Wanted};
-use nugwier_writing::kind::Kind;
 use std::alloc::Global;
 
 // The bytes of a section, and its compression header if it has one.
 type Content<'f> = (&'f [u8], Option<CompressionHeader>);
+
+/// How the content of a section is listed.
+#[derive(Debug, Clone, Copy)]
+pub enum Form {
+    Bytes,
+    Strings,
+}
+
+/// A section, by its name or its number.
+#[derive(Debug, Clone, Copy)]
+pub struct Wanted<'a> {
+    pub form: Form,
+    pub section: &'a str,
+}
 
 /// Tells the content of sections, in order. Of no section, nothing is read.
 pub fn tell_contents<E: EndianParse, R: ListedFile<E>, T: Tell>(
@@ -70,7 +85,7 @@ fn tell_wanted<E: EndianParse, R: ListedFile<E>, T: Tell>(
     let sections = sections_of(alloc, file, names, wanted.section)?;
     if sections.is_empty() {
         let word = Quoted::new(wanted.section.as_bytes());
-        return tell.problem(Part::File.whole(), Fault::NoSection(word));
+        return tell.problem(Part::File.whole(), &NoSection(word));
     }
     tell_sections(file, names, wanted.form, sections.as_slice(), tell)
 }
@@ -107,7 +122,7 @@ fn tell_section<E: EndianParse, R: ListedFile<E>, T: Tell>(
         (wanted_said (file_of (R.file file.now) (R.bytes file.now)) names.now form left section.now)) }
 {
     let (number, section) = *section;
-    let content = taking::section_data(file, &section)?;
+    let content = reading::section_data(file, &section)?;
     let after = left_after(left, &content);
     let name = label_name(names, &section);
     tell_found(form, number as u64, name, &section, left, content, tell)?;
@@ -144,18 +159,18 @@ fn tell_found<T: Tell>(
     tell.state(heading_of(form), &heading_members(number, name))?;
     let place = Part::Section(number).whole();
     match content {
-        Ok((bytes, _)) if left < bytes.len() as u64 => tell.problem(place, Fault::Repeated),
+        Ok((bytes, _)) if left < bytes.len() as u64 => tell.problem(place, &Fault::Repeated),
         Ok(content) => tell_content(form, number, section, content, tell),
-        Err(error) => tell.problem(place, Fault::Read(error)),
+        Err(error) => tell.problem(place, &error),
     }
 }
 
-fn heading_of(form: Form) -> Kind
-    ensures { result ≡ heading_of form }
+fn heading_of(form: Form) -> &'static Layout
+    ensures { layout_of result.now ≡ heading_of form }
 {
     match form {
-        Form::Bytes => Kind::BytesHeading,
-        Form::Strings => Kind::StringsHeading,
+        Form::Bytes => &layouts::BYTES_HEADING,
+        Form::Strings => &layouts::STRINGS_HEADING,
     }
 }
 
@@ -197,8 +212,8 @@ fn tell_none<T: Tell>(section: &SectionHeader, bytes: &[u8], tell: &mut T) -> Re
     ensures { OnOk result (tell.new ≡ saying T.one tell.old (none_said section.now bytes.now)) }
 {
     match bytes {
-        [] if section.sh_type == abi::SHT_NOBITS => tell.state(Kind::NoBytes, &[]),
-        [] => tell.state(Kind::EmptySection, &[]),
+        [] if section.sh_type == abi::SHT_NOBITS => tell.state(&layouts::NO_BYTES, &[]),
+        [] => tell.state(&layouts::EMPTY_SECTION, &[]),
         _ => Ok(()),
     }
 }

@@ -3,27 +3,25 @@
 
 ghost use Rattle.std.specs.Prelude.{◌≡◌, IfOk, OnOk};
 ghost use Rattle.elf_records.specs.Number.{ok_map};
-ghost use Rattle.nugwier_sections.specs.DebugLinks.{form_of, found_said, left_after_section, link_in, link_of_section};
+ghost use Rattle.nugwier_sections.specs.DebugLinks.{form_of, left_after_section, link_in, link_of_section, link_told};
 ghost use Rattle.nugwier_sections.specs.DebugLinks.{said_of_debug_links};
-ghost use Rattle.nugwier_taking.specs.Read.{given_said};
-ghost use Rattle.nugwier_taking.specs.Whole.{file_of};
+ghost use Rattle.nugwier_report.specs.Whole.{file_of};
 ghost use Rattle.nugwier_report.specs.Said.{saying};
-ghost use Rattle.nugwier_report.specs.declared.problem.Part.TheVariants.{Section as IsSection};
 
+use crate::debug_link_rows::{tell_debug_alt_link, tell_debug_link};
 use elf::endian::EndianParse;
 use elf::section::SectionHeader;
 use elf::string_table::TerminatedStrings;
 use elf_tools::debug_link::{debug_alt_link, debug_link};
-use nugwier_records::debug_links::{tell_debug_alt_link, tell_debug_link};
+use nugwier_layouts::layouts;
+use nugwier_report::headings::{heading_members, known_names};
+use nugwier_report::listed::ListedFile;
+use nugwier_report::named_sections::is_named;
 use nugwier_report::names::label_name;
 use nugwier_report::problem::{Fault, Part, Stop};
+use nugwier_report::reading;
 use nugwier_report::tell::Tell;
-use nugwier_taking::headings::{heading_members, known_names};
-use nugwier_taking::listed::ListedFile;
-use nugwier_taking::named::is_named;
-use nugwier_taking::taking;
-use nugwier_taking::typed_sections::{left_after, within};
-use nugwier_writing::kind::Kind;
+use nugwier_report::typed_sections::{left_after, within};
 
 /// The form of the link that a section has.
 #[derive(Clone, Copy)]
@@ -69,10 +67,10 @@ fn tell_section<E: EndianParse, R: ListedFile<E>, T: Tell>(
     let Some(form) = form_of(names, section) else {
         return Ok(left);
     };
-    let bytes = taking::content(file, section)?;
+    let bytes = reading::content(file, section)?;
     let after = left_after(left, &bytes);
     let members = heading_members(number, label_name(names, section));
-    tell.state(Kind::DebugLinkHeading, &members)?;
+    tell.state(&layouts::DEBUG_LINK_HEADING, &members)?;
     tell_link(file.endianness(), form, number, within(left, bytes), tell)?;
     Ok(after)
 }
@@ -95,25 +93,25 @@ fn tell_link<E: EndianParse, T: Tell>(
     order: E,
     form: LinkForm,
     number: u64,
-    bytes: Result<&[u8], Fault<'static>>,
+    bytes: Result<&[u8], Fault>,
     tell: &mut T,
 ) -> Result<(), Stop>
-    ensures { OnOk result (tell.new ≡ saying T.one tell.old (given_said (IsSection number) (found_said number)
+    ensures { OnOk result (tell.new ≡ saying T.one tell.old (link_told number
         (link_in (E.little order) form (ok_map (λ bytes. bytes.now) bytes.entry)))) }
 {
     let place = Part::Section(number).whole();
     let bytes = match bytes {
         Ok(bytes) => bytes,
-        Err(fault) => return tell.problem(place, fault),
+        Err(fault) => return tell.problem(place, &fault),
     };
     match form {
         LinkForm::Own => match debug_link(order, bytes) {
             Ok(link) => tell_debug_link(number, link, tell),
-            Err(error) => tell.problem(place, Fault::DebugLink(error)),
+            Err(error) => tell.problem(place, &error),
         },
         LinkForm::Shared => match debug_alt_link(bytes) {
             Ok(link) => tell_debug_alt_link(number, link, tell),
-            Err(error) => tell.problem(place, Fault::DebugLink(error)),
+            Err(error) => tell.problem(place, &error),
         },
     }
 }

@@ -4,19 +4,19 @@
 ghost use Rattle.std.specs.Prelude.{◌≡◌, ◌≢◌, ◌∷◌, [], OnOk};
 ghost use Rattle.elf_tools.specs.declared.load_plan.PlanError.TheVariants.{Memory};
 ghost use Rattle.nugwier_sections.specs.Plan.{IsPlanSaid, mappings_said};
-ghost use Rattle.nugwier_taking.specs.Whole.{file_of};
-ghost use Rattle.nugwier_report.specs.Said.{IsToldAs, saying, whole, wrong};
-ghost use Rattle.nugwier_report.specs.declared.problem.Fault.TheVariants.{Plan};
+ghost use Rattle.nugwier_report.specs.Whole.{file_of};
+ghost use Rattle.nugwier_report.specs.Said.{IsToldAs, saying, warns, whole};
+ghost use Rattle.elf_tools.specs.LoadPlan.{error_text};
 ghost use Rattle.nugwier_report.specs.declared.problem.Part.TheVariants.{LoadPlan};
 
+use crate::mapping_rows::MappingRow;
 use elf::endian::EndianParse;
 use elf_tools::load_plan::{Mapping, PlanError, load_plan};
-use nugwier_records::mappings::MappingRow;
+use nugwier_layouts::layouts;
+use nugwier_report::listed::ListedFile;
 use nugwier_report::problem::{Fault, Part, Stop};
 use nugwier_report::rows::tell_slice;
 use nugwier_report::tell::Tell;
-use nugwier_taking::listed::ListedFile;
-use nugwier_writing::kind::Kind;
 use std::alloc::Global;
 
 /// Tells the mappings. It is a problem if there are none, or if they cannot be mapped. They follow from the program
@@ -38,11 +38,11 @@ pub fn tell_plan<E: EndianParse, R: ListedFile<E>, T: Tell>(
 // Tells why there is no plan. A failed allocation is no error of the file.
 fn tell_refused<T: Tell>(error: PlanError, tell: &mut T) -> Result<(), Stop>
     ensures reason { OnOk result (error ≢ Memory) }
-    ensures told { OnOk result (tell.new ≡ saying T.one tell.old (wrong (whole LoadPlan) (Plan error) ∷ [])) }
+    ensures told { OnOk result (tell.new ≡ saying T.one tell.old (warns (whole LoadPlan) (error_text error) ∷ [])) }
 {
     match error {
         PlanError::Memory => Err(Stop::Memory),
-        error => tell.problem(Part::LoadPlan.whole(), Fault::Plan(error)),
+        error => tell.problem(Part::LoadPlan.whole(), &error),
     }
 }
 
@@ -50,8 +50,8 @@ fn tell_mappings<T: Tell>(plan: &[Mapping], tell: &mut T) -> Result<(), Stop>
     ensures { OnOk result (tell.new ≡ saying T.one tell.old (mappings_said plan.now)) }
 {
     if plan.is_empty() {
-        return tell.problem(Part::LoadPlan.whole(), Fault::Missing);
+        return tell.problem(Part::LoadPlan.whole(), &Fault::Missing);
     }
-    tell.state(Kind::MappingsHeading, &[])?;
+    tell.state(&layouts::MAPPINGS_HEADING, &[])?;
     tell_slice(plan, &MappingRow, tell)
 }

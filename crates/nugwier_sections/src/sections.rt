@@ -4,22 +4,22 @@
 ghost use Rattle.std.specs.Prelude.{◌≡◌, IfOk, OnOk};
 ghost use Rattle.elf.specs.Names.{name_table};
 ghost use Rattle.nugwier_sections.specs.Sections.{said_of_sections};
-ghost use Rattle.nugwier_taking.specs.Headings.{known_names};
-ghost use Rattle.nugwier_taking.specs.Whole.{file_of};
+ghost use Rattle.nugwier_report.specs.Headings.{known_names};
+ghost use Rattle.nugwier_report.specs.Whole.{file_of};
 ghost use Rattle.nugwier_report.specs.Said.{saying, unread, whole};
 ghost use Rattle.nugwier_report.specs.declared.problem.Part.TheVariants.{SectionNames as IsSectionNames};
 
+use crate::section_rows::SectionRow;
 use elf::endian::EndianParse;
 use elf::headers::Headers;
 use elf::string_table::TerminatedStrings;
-use nugwier_records::sections::SectionRow;
-use nugwier_report::problem::{Fault, Part, Stop};
+use nugwier_layouts::layouts;
+use nugwier_report::headings::count_members;
+use nugwier_report::listed::ListedFile;
+use nugwier_report::problem::{Part, Stop};
+use nugwier_report::reading;
 use nugwier_report::rows::tell_slice;
 use nugwier_report::tell::Tell;
-use nugwier_taking::headings::count_members;
-use nugwier_taking::listed::ListedFile;
-use nugwier_taking::taking;
-use nugwier_writing::kind::Kind;
 
 /// Tells the sections, if the file declares any.
 pub fn tell_sections<E: EndianParse, R: ListedFile<E>, T: Tell>(
@@ -35,7 +35,7 @@ pub fn tell_sections<E: EndianParse, R: ListedFile<E>, T: Tell>(
     let names = names_of(file, tell)?;
     let sections = file.section_list();
     let machine = file.file_header().e_machine;
-    tell.state(Kind::SectionsHeading, &count_members(sections.len()))?;
+    tell.state(&layouts::SECTIONS_HEADING, &count_members(sections.len()))?;
     tell_slice(sections, &SectionRow { machine, names }, tell)
 }
 
@@ -48,10 +48,10 @@ fn names_of<'f, E: EndianParse, R: ListedFile<E>, T: Tell>(
     ensures told { OnOk result (tell.new ≡ saying T.one tell.old
         (unread (whole IsSectionNames) (name_table (file_of (R.file file.now) (R.bytes file.now))))) }
 {
-    match taking::names(file)? {
+    match reading::names(file)? {
         Ok(names) => Ok(names),
         Err(error) => {
-            tell.problem(Part::SectionNames.whole(), Fault::Read(error))?;
+            tell.problem(Part::SectionNames.whole(), &error)?;
             Ok(None)
         }
     }

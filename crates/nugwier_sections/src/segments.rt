@@ -3,22 +3,22 @@
 
 ghost use Rattle.std.specs.Prelude.{◌≡◌, OnOk};
 ghost use Rattle.nugwier_sections.specs.Segments.{interpreter_in, said_of_segments, segments_said};
-ghost use Rattle.nugwier_taking.specs.Whole.{file_of};
+ghost use Rattle.nugwier_report.specs.Whole.{file_of};
 ghost use Rattle.nugwier_report.specs.Said.{numbered, saying};
 
+use crate::segment_rows::{SegmentRow, tell_interpreter};
+use crate::segment_sections::tell_segments_sections;
 use elf::abi;
 use elf::endian::EndianParse;
 use elf::segment::ProgramHeader;
 use elf::string_table::StringTable;
-use nugwier_records::segment_sections::tell_segments_sections;
-use nugwier_records::segments::{SegmentRow, tell_interpreter};
-use nugwier_report::problem::{Fault, Part, Stop};
+use nugwier_layouts::layouts;
+use nugwier_report::headings::{count_members, known_names};
+use nugwier_report::listed::ListedFile;
+use nugwier_report::problem::{Part, Stop};
+use nugwier_report::reading;
 use nugwier_report::rows::tell_slice;
 use nugwier_report::tell::Tell;
-use nugwier_taking::headings::{count_members, known_names};
-use nugwier_taking::listed::ListedFile;
-use nugwier_taking::taking;
-use nugwier_writing::kind::Kind;
 
 /// Tells the segments, the programs that load the file, and the sections of each segment.
 pub fn tell_segments<E: EndianParse, R: ListedFile<E>, T: Tell>(
@@ -42,7 +42,7 @@ fn tell_headers<T: Tell>(machine: u16, segments: &[ProgramHeader], tell: &mut T)
     if segments.is_empty() {
         return Ok(());
     }
-    tell.state(Kind::SegmentsHeading, &count_members(segments.len()))?;
+    tell.state(&layouts::SEGMENTS_HEADING, &count_members(segments.len()))?;
     tell_slice(segments, &SegmentRow { machine }, tell)
 }
 
@@ -76,11 +76,11 @@ fn tell_path<E: EndianParse, R: ListedFile<E>, T: Tell>(
         return Ok(());
     }
     let place = Part::Segment(number).whole();
-    match taking::segment_data(file, segment)? {
+    match reading::segment_data(file, segment)? {
         Ok(bytes) => match StringTable::new(bytes).get_raw(0) {
             Ok(path) => tell_interpreter(number, path, tell),
-            Err(error) => tell.problem(place, Fault::Read(error)),
+            Err(error) => tell.problem(place, &error),
         },
-        Err(error) => tell.problem(place, Fault::Read(error)),
+        Err(error) => tell.problem(place, &error),
     }
 }

@@ -4,3 +4,5 @@ pub mod Ordered
 pub mod Placed
 -- what was told, of what may be said
 pub mod Told
+-- the versions of symbols
+pub mod ShownVersions

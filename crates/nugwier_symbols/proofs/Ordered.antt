@@ -6,12 +6,12 @@ use Rattle.elf_parts.specs.gnu_symver.Table.{Versions}
 use Rattle.elf_records.specs.Table.{Table}
 use Rattle.elf_records.specs.declared.symbol.Symbol.{Symbol}
 use Rattle.nugwier_symbols.specs.Symbols.{AreTableSaid, IsByKey, IsOrdered, heading_said, order_key, rows_of, rows_said, versioned_said, whole_said}
-use Rattle.nugwier_taking.specs.Read.{fault_said, if_read}
+use Rattle.nugwier_report.specs.Reading.{fault_said, if_read}
 use Rattle.nugwier_report.proofs.Saying.{then_said}
 use Rattle.nugwier_report.specs.Said.{IsToldAs, Said, numbered, saying, whole}
-use Rattle.nugwier_records.specs.Symbols.{Manner, all_fields, by_letter, exports_alone, order_of}
-use Rattle.nugwier_report.specs.declared.symbol_options.SymbolOrder.{SymbolOrder}
-use Rattle.nugwier_report.specs.declared.symbol_options.SymbolOrder.TheVariants.{Size, Value}
+use Rattle.nugwier_symbols.specs.SymbolRows.{Manner, all_fields, by_letter, exports_alone, order_of}
+use Rattle.nugwier_symbols.specs.declared.symbol_options.SymbolOrder.{SymbolOrder}
+use Rattle.nugwier_symbols.specs.declared.symbol_options.SymbolOrder.TheVariants.{Size, Value}
 use Rattle.nugwier_report.specs.declared.problem.Fault.{Fault}
 use Rattle.nugwier_report.specs.declared.problem.Part.{Part}
 use Rattle.nugwier_report.specs.declared.problem.Part.TheVariants.{Versions as VersionPart}

@@ -1,5 +1,6 @@
 -- What is said of addresses, by the symbols of a file.
 use Rattle.std.specs.Prelude.{ℕ, ◌≡◌, ◌==◌, if◌then◌else◌, List, [], ◌∷◌, map, Option, Some, None, Result, Ok, Err}
+use Rattle.std.specs.Option.{option_map}
 use Rattle.elf_abi.specs.declared.abi.TheConstants as abi
 use Rattle.elf.specs.Answers.{symbol_table}
 use Rattle.elf.specs.ObjectFile.{ObjectFile, err_map}
@@ -8,17 +9,29 @@ use Rattle.elf_records.specs.Table.{Table, table_items}
 use Rattle.elf_records.specs.declared.section.SectionHeader.{SectionHeader}
 use Rattle.elf_tools.specs.Addresses.{IsByAddress, located_symbols}
 use Rattle.elf_tools.specs.declared.addresses.Located.{Located}
-use Rattle.nugwier_taking.specs.Named.{section_of}
-use Rattle.nugwier_taking.specs.Linked.{linked_symbols}
-use Rattle.nugwier_records.specs.Addresses.{address_said}
+use Rattle.nugwier_report.specs.NamedSections.{section_of}
+use Rattle.nugwier_report.specs.Linked.{linked_symbols}
+use Rattle.nugwier_symbols.specs.AddressRows.{address_said}
 use Rattle.nugwier_report.specs.Said.{Said, numbered, whole, wrong}
-use Rattle.nugwier_records.specs.declared.addresses.Among.{Among}
-use Rattle.nugwier_records.specs.declared.addresses.Among.TheVariants as among
-use Rattle.nugwier_records.specs.declared.addresses.PlacedAddress.{PlacedAddress}
+use Rattle.nugwier_symbols.specs.declared.address_rows.Among.{Among}
+use Rattle.nugwier_symbols.specs.declared.address_rows.Among.TheVariants as among
+use Rattle.nugwier_symbols.specs.declared.address_rows.PlacedAddress.{PlacedAddress}
 use Rattle.nugwier_report.specs.declared.problem.Fault.{Fault}
 use Rattle.nugwier_report.specs.declared.problem.Fault.TheVariants.{Missing, Read}
 use Rattle.nugwier_report.specs.declared.problem.Part.TheVariants.{Symbols}
-use Rattle.nugwier_words.specs.Words.{Sought}
+use Rattle.nugwier_symbols.specs.declared.addresses.AskedAddress.{AskedAddress}
+use Rattle.std.specs.Borrow.{Bor}
+
+-- an address, and the section that it is in, if one is given
+pub record Sought : Type 0 where
+  pub section : Option (List ℕ)
+  pub address : ℕ
+
+abbrev pub text_of : Option (Bor (List ℕ)) → Option (List ℕ)
+text_of word = option_map (λ (w : Bor (List ℕ)). w.now) word
+
+abbrev pub sought : AskedAddress → Sought
+sought asked = record { section = text_of asked.section; address = asked.address }
 
 -- the first answer, or if there is none of it the second
 abbrev pub first_found : {A : Type 0} → Result (Option A) Fault → Result (Option A) Fault → Result (Option A) Fault

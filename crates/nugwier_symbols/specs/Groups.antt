@@ -11,12 +11,12 @@ use Rattle.elf_records.specs.Table.{Table, table_get, table_items}
 use Rattle.elf_records.specs.Word.{u32_reads}
 use Rattle.elf_records.specs.declared.parse.ParseError.{ParseError}
 use Rattle.elf_records.specs.declared.section.SectionHeader.{SectionHeader}
-use Rattle.nugwier_taking.specs.Headings.{known_names}
-use Rattle.nugwier_taking.specs.Read.{given_said}
-use Rattle.nugwier_taking.specs.TypedSections.{TypedSection, sections_of}
-use Rattle.nugwier_records.specs.Groups.{GroupView, group_said}
+use Rattle.nugwier_report.specs.Headings.{known_names}
+use Rattle.nugwier_report.specs.Reading.{given_said}
+use Rattle.nugwier_report.specs.TypedSections.{TypedSection, sections_of}
+use Rattle.nugwier_symbols.specs.GroupRows.{GroupView, group_said}
 use Rattle.nugwier_report.specs.Labels.{Named}
-use Rattle.nugwier_records.specs.Relocations.{symbol_name}
+use Rattle.nugwier_symbols.specs.RelocationRows.{symbol_name}
 use Rattle.nugwier_report.specs.Said.{Said}
 use Rattle.nugwier_report.specs.declared.problem.Fault.{Fault}
 use Rattle.nugwier_report.specs.declared.problem.Fault.TheVariants.{Read}

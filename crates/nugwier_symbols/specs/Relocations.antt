@@ -23,17 +23,16 @@ use Rattle.elf_records.specs.declared.relocation.Rela.{Rela}
 use Rattle.elf_records.specs.declared.section.SectionHeader.{SectionHeader}
 use Rattle.elf.specs.Answers.{section_data_as_relas, section_data_as_rels, symbols_of}
 use Rattle.elf.specs.ObjectFile.{ObjectFile, err_map, table_of}
-use Rattle.nugwier_taking.specs.Headings.{counted_members, known_names, row_count}
+use Rattle.nugwier_report.specs.Headings.{counted_members, known_names}
 use Rattle.nugwier_report.specs.Labels.{label_name}
-use Rattle.nugwier_taking.specs.Linked.{linked_versions}
-use Rattle.nugwier_taking.specs.Read.{fault_said, given_said, if_read}
-use Rattle.nugwier_taking.specs.TypedSections.{TypedSection, sections_of}
+use Rattle.nugwier_report.specs.Linked.{linked_versions}
+use Rattle.nugwier_report.specs.Reading.{fault_said, given_said, if_read}
+use Rattle.nugwier_report.specs.TypedSections.{TypedSection, sections_of}
 use Rattle.nugwier_report.specs.Parts.{tag_name}
 use Rattle.nugwier_report.specs.Labels.{Named}
-use Rattle.nugwier_records.specs.Relocations.{Used, relative_said, relocation_said}
-use Rattle.nugwier_writing.specs.Members.{Members, text}
+use Rattle.nugwier_symbols.specs.RelocationRows.{Used, relative_said, relocation_said}
+use Rattle.nugwier_layouts.specs.Members.{Members, number_content, text}
 use Rattle.nugwier_report.specs.Said.{Said, numbered, states, whole, wrong}
-use Rattle.nugwier_writing.specs.declared.kind.Kind.TheVariants.{RelocationTableHeading, RelocationsHeading}
 use Rattle.nugwier_report.specs.declared.problem.Fault.{Fault}
 use Rattle.nugwier_report.specs.declared.problem.Fault.TheVariants.{Linked, Read}
 use Rattle.nugwier_report.specs.declared.problem.Item.TheVariants.{Symbols as SymbolsItem}
@@ -41,7 +40,9 @@ use Rattle.nugwier_report.specs.declared.problem.Part.{Part}
 use Rattle.nugwier_report.specs.declared.problem.Part.TheVariants.{Dynamic, Relocations, Section, Versions as VersionPart}
 use Rattle.nugwier_report.specs.declared.problem.RelocationTable.{RelocationTable}
 use Rattle.nugwier_report.specs.declared.problem.RelocationTable.TheVariants as table
-use Rattle.nugwier_records.specs.declared.relocations.Machine.{Machine}
+use Rattle.nugwier_symbols.specs.declared.relocation_rows.Machine.{Machine}
+use Rattle.nugwier_layouts.specs.Layouts.{constant}
+use Rattle.nugwier_layouts.specs.declared.layouts.TheConstants as layout
 
 -- relocations of one type; of packed relative ones the addresses alone
 pub data Records : Type 0 where
@@ -183,12 +184,12 @@ part_of (in_section k name) = Section k
 part_of (in_table t) = Relocations t
 
 abbrev pub table_members : RelocationTable → Option ℕ → Members
-table_members t count = (codes "table", text (Some (tag_name t))) ∷ (codes "count", row_count count) ∷ []
+table_members t count = (codes "table", text (Some (tag_name t))) ∷ (codes "count", number_content count) ∷ []
 
 -- above this number of relocations
 abbrev pub heading_of : Place → Option ℕ → Said
-heading_of (in_section k name) count = states RelocationsHeading (counted_members k name count)
-heading_of (in_table t) count = states RelocationTableHeading (table_members t count)
+heading_of (in_section k name) count = states (constant layout.RELOCATIONS_HEADING) (counted_members k name count)
+heading_of (in_table t) count = states (constant layout.RELOCATION_TABLE_HEADING) (table_members t count)
 
 abbrev pub used_by : Surroundings → Symbols → Used
 used_by around ((table, strings), is_dynamic) = record {

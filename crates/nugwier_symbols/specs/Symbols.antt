@@ -11,19 +11,20 @@ use Rattle.elf_parts.specs.gnu_symver.Table.{Versions}
 use Rattle.elf_records.specs.Symbol.{symbol_reads}
 use Rattle.elf_records.specs.Table.{Table, table_items}
 use Rattle.elf_records.specs.declared.symbol.Symbol.{Symbol}
-use Rattle.nugwier_taking.specs.Headings.{count_members, name_bytes}
-use Rattle.nugwier_taking.specs.Linked.{linked_symbols, linked_versions}
-use Rattle.nugwier_taking.specs.Read.{fault_said, found_said, if_read, missing}
+use Rattle.nugwier_report.specs.Headings.{count_members, name_bytes}
+use Rattle.nugwier_report.specs.Linked.{linked_symbols, linked_versions}
+use Rattle.nugwier_report.specs.Reading.{fault_said, found_said, if_read, missing}
 use Rattle.nugwier_report.specs.Said.{Said, numbered, states, whole, wrong}
-use Rattle.nugwier_records.specs.Symbols.{Manner, all_fields, by_letter, exports_alone, order_of, symbol_said}
-use Rattle.nugwier_writing.specs.declared.kind.Kind.TheVariants as kind
+use Rattle.nugwier_symbols.specs.SymbolRows.{Manner, all_fields, by_letter, exports_alone, order_of, symbol_said}
 use Rattle.nugwier_report.specs.declared.problem.Fault.{Fault}
 use Rattle.nugwier_report.specs.declared.problem.Fault.TheVariants.{Read}
 use Rattle.nugwier_report.specs.declared.problem.Part.{Part}
 use Rattle.nugwier_report.specs.declared.problem.Part.TheVariants.{DynamicSymbols, Symbols, Versions as VersionPart}
-use Rattle.nugwier_report.specs.declared.symbol_options.SymbolOptions.{SymbolOptions}
-use Rattle.nugwier_report.specs.declared.symbol_options.SymbolOrder.{SymbolOrder}
-use Rattle.nugwier_report.specs.declared.symbol_options.SymbolOrder.TheVariants as order
+use Rattle.nugwier_symbols.specs.declared.symbol_options.SymbolOptions.{SymbolOptions}
+use Rattle.nugwier_symbols.specs.declared.symbol_options.SymbolOrder.{SymbolOrder}
+use Rattle.nugwier_symbols.specs.declared.symbol_options.SymbolOrder.TheVariants as order
+use Rattle.nugwier_layouts.specs.Layouts.{constant}
+use Rattle.nugwier_layouts.specs.declared.layouts.TheConstants as layout
 
 -- ---- the order of symbols
 
@@ -52,8 +53,8 @@ IsOrdered other all rows = IsByKey (order_key other) all rows
 
 -- above this number of rows
 abbrev pub heading_said : Manner → Part → ℕ → List Said
-heading_said all_fields Symbols count = states kind.SymbolsHeading (count_members count) ∷ []
-heading_said all_fields _ count = states kind.DynamicSymbolsHeading (count_members count) ∷ []
+heading_said all_fields Symbols count = states (constant layout.SYMBOLS_HEADING) (count_members count) ∷ []
+heading_said all_fields _ count = states (constant layout.DYNAMIC_SYMBOLS_HEADING) (count_members count) ∷ []
 heading_said _ part count = []
 
 -- of symbols of this part, with their strings and versions

@@ -7,41 +7,47 @@ ghost use Rattle.elf.specs.Answers.{symbols_view};
 ghost use Rattle.elf_records.specs.Number.{ok_map};
 ghost use Rattle.nugwier_symbols.specs.Addresses.{AreAddressesSaid, AreEachSaid, AreSaidBy, all_symbols};
 ghost use Rattle.nugwier_symbols.specs.Addresses.{among_of, placed};
-ghost use Rattle.nugwier_taking.specs.Whole.{file_of};
+ghost use Rattle.nugwier_report.specs.Whole.{file_of};
 ghost use Rattle.nugwier_report.specs.Said.{IsToldAs};
-ghost use Rattle.nugwier_words.specs.Words.{sought, task_of, text_of};
+ghost use Rattle.nugwier_symbols.specs.Addresses.{sought, text_of};
 
+use crate::address_rows::{AddressRow, Among, PlacedAddress};
 use elf::abi;
 use elf::endian::EndianParse;
 use elf::string_table::TerminatedStrings;
 use elf_tools::addresses::Addresses;
-use nugwier_records::addresses::{AddressRow, Among, PlacedAddress};
+use nugwier_report::headings::known_names;
+use nugwier_report::linked::linked_symbols;
+use nugwier_report::listed::ListedFile;
+use nugwier_report::named_sections::section_of;
 use nugwier_report::problem::{Fault, Part, Stop};
 use nugwier_report::quoted::Quoted;
+use nugwier_report::reading;
+use nugwier_report::reading::{FoundSymbols, Symbols};
 use nugwier_report::rows::tell_slice;
 use nugwier_report::tell::Tell;
-use nugwier_taking::headings::known_names;
-use nugwier_taking::linked::linked_symbols;
-use nugwier_taking::listed::ListedFile;
-use nugwier_taking::named::section_of;
-use nugwier_taking::taking;
-use nugwier_taking::taking::{FoundSymbols, Symbols};
-use nugwier_words::words::{AskedAddress, Job};
 use std::alloc::Global;
+
+/// An address, and the section that it is in, by its name or its number, if one is given.
+#[derive(Debug, Clone, Copy)]
+pub struct AskedAddress<'a> {
+    pub section: Option<&'a str>,
+    pub address: u64,
+}
 
 /// Tells the symbol that starts at each address or before it. It is wrong if there are no symbols, if none starts there
 /// or before, if its name cannot be read, or if its section is not given or not found.
 pub fn tell_addresses<E: EndianParse, R: ListedFile<E>, T: Tell>(
     alloc: Global,
-    job: &Job<'_>,
+    asked: &[AskedAddress<'_>],
     file: &R,
     tell: &mut T,
 ) -> Result<(), Stop>
     ensures { let header = R.header file.now in OnOk result (IsToldAs T.silent T.one
-        (AreAddressesSaid header.e_type header.e_machine (task_of job.now).addresses
+        (AreAddressesSaid header.e_type header.e_machine (map sought asked.now)
         (file_of (R.file file.now) (R.bytes file.now))) tell.old tell.new) }
 {
-    let addresses = placed(alloc, file, job.addresses.as_slice())?;
+    let addresses = placed(alloc, file, asked)?;
     let symbols = all_symbols(file)?;
     tell_symbols(
         alloc,
@@ -100,7 +106,7 @@ fn all_symbols<'f, E: EndianParse, R: ListedFile<E>>(
     ensures { IfOk result (λ found. ok_map (option_map symbols_view) found
         ≡ all_symbols (file_of (R.file file.now) (R.bytes file.now))) }
 {
-    match taking::symbols(file)? {
+    match reading::symbols(file)? {
         Ok(Some(symbols)) => Ok(Ok(Some(symbols))),
         Ok(None) => linked_symbols(file),
         Err(fault) => Ok(Err(fault)),
@@ -121,8 +127,8 @@ fn tell_symbols<E: EndianParse, T: Tell>(
 {
     match symbols {
         Ok(Some(symbols)) => tell_each(alloc, machine, symbols, addresses, tell),
-        Ok(None) => tell.problem(Part::Symbols.whole(), Fault::Missing),
-        Err(fault) => tell.problem(Part::Symbols.whole(), fault),
+        Ok(None) => tell.problem(Part::Symbols.whole(), &Fault::Missing),
+        Err(fault) => tell.problem(Part::Symbols.whole(), &fault),
     }
 }
 

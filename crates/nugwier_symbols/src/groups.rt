@@ -4,12 +4,14 @@
 ghost use Rattle.std.specs.Prelude.{◌≡◌, IfOk, OnOk};
 ghost use Rattle.elf_records.specs.Number.{ok_map};
 ghost use Rattle.nugwier_symbols.specs.Groups.{group_in, said_of_groups, section_group_said, signature_of};
-ghost use Rattle.nugwier_taking.specs.Whole.{file_of};
-ghost use Rattle.nugwier_taking.specs.inner.TypedSections.{section_view};
-ghost use Rattle.nugwier_records.specs.Groups.{group_view};
+ghost use Rattle.nugwier_report.specs.Whole.{file_of};
+ghost use Rattle.nugwier_report.specs.inner.TypedSections.{section_view};
+ghost use Rattle.nugwier_symbols.specs.GroupRows.{group_view};
 ghost use Rattle.nugwier_report.specs.Labels.{named_by};
 ghost use Rattle.nugwier_report.specs.Said.{saying};
 
+use crate::group_rows::{Group, tell_group};
+use crate::relocation_rows::symbol_name;
 use crate::relocations::labels_of;
 use elf::ParseError;
 use elf::endian::EndianParse;
@@ -17,15 +19,13 @@ use elf::headers::Headers;
 use elf::parse::ParsingIterator;
 use elf::section::SectionHeader;
 use elf::string_table::TerminatedStrings;
-use nugwier_records::groups::{Group, tell_group};
-use nugwier_records::relocations::symbol_name;
+use elf_records::slices::rest_of;
+use nugwier_report::listed::ListedFile;
 use nugwier_report::names::Labels;
-use nugwier_report::problem::{Fault, Part, Stop};
+use nugwier_report::problem::{Part, Stop};
+use nugwier_report::reading;
 use nugwier_report::tell::Tell;
-use nugwier_taking::listed::ListedFile;
-use nugwier_taking::taking;
-use nugwier_taking::typed_sections::{GROUP_TYPES, TypedSection, sections_of};
-use nugwier_writing::slices::rest_of;
+use nugwier_report::typed_sections::{GROUP_TYPES, TypedSection, sections_of};
 use std::alloc::Global;
 
 /// Tells the group of each section that is one.
@@ -62,11 +62,11 @@ fn tell_section<'f, E: EndianParse, R: ListedFile<E>, T: Tell>(
     let place = Part::Section(number).whole();
     let bytes = match bytes {
         Ok(bytes) => bytes,
-        Err(fault) => return tell.problem(place, fault),
+        Err(fault) => return tell.problem(place, &fault),
     };
     match group_in(file, labels, &header, bytes)? {
         Ok(group) => tell_group(number, group, labels, tell),
-        Err(error) => tell.problem(place, Fault::Read(error)),
+        Err(error) => tell.problem(place, &error),
     }
 }
 
@@ -109,7 +109,7 @@ fn signature_of<'f, E: EndianParse, R: ListedFile<E>>(
         Ok(linked) => linked,
         Err(error) => return Ok(Err(error)),
     };
-    let (table, strings) = match taking::symbols_of(file, &linked)? {
+    let (table, strings) = match reading::symbols_of(file, &linked)? {
         Ok(symbols) => symbols,
         Err(error) => return Ok(Err(error)),
     };

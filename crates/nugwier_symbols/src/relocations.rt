@@ -8,24 +8,25 @@ ghost use Rattle.elf.specs.ObjectFile.{err_map};
 ghost use Rattle.elf_dynamic.specs.dynamic_view.Entries.{entries_in};
 ghost use Rattle.elf_records.specs.Number.{ok_map};
 ghost use Rattle.elf_records.specs.Table.{items_left, table_view};
-ghost use Rattle.nugwier_taking.specs.Headings.{known_names};
-ghost use Rattle.nugwier_taking.specs.Read.{if_read};
+ghost use Rattle.nugwier_report.specs.Headings.{known_names};
+ghost use Rattle.nugwier_report.specs.Reading.{if_read};
 ghost use Rattle.nugwier_symbols.specs.Relocations.{count_if, linked_table, machine_of};
 ghost use Rattle.nugwier_symbols.specs.Relocations.{placed_said, records_if, records_of};
 ghost use Rattle.nugwier_symbols.specs.Relocations.{records_said, relative_in, relocations_of, relocations_said};
 ghost use Rattle.nugwier_symbols.specs.Relocations.{said_of_relocations, section_relocations, sections_relocations};
 ghost use Rattle.nugwier_symbols.specs.Relocations.{section_symbols, symbols_unread, table_members};
 ghost use Rattle.nugwier_symbols.specs.Relocations.{table_count, table_records, table_relocations, used_by};
-ghost use Rattle.nugwier_taking.specs.Whole.{file_of};
+ghost use Rattle.nugwier_report.specs.Whole.{file_of};
 ghost use Rattle.nugwier_symbols.specs.inner.Relocations.{around_view, counted_view, place_heading, place_part};
 ghost use Rattle.nugwier_symbols.specs.inner.Relocations.{placed_view, records_view, symbols_view};
-ghost use Rattle.nugwier_taking.specs.inner.TypedSections.{section_view};
+ghost use Rattle.nugwier_report.specs.inner.TypedSections.{section_view};
 ghost use Rattle.nugwier_report.specs.Labels.{named_by};
-ghost use Rattle.nugwier_writing.specs.Members.{members_said};
-ghost use Rattle.nugwier_records.specs.Relocations.{used_view};
+ghost use Rattle.nugwier_layouts.specs.Members.{members_said};
+ghost use Rattle.nugwier_symbols.specs.RelocationRows.{used_view};
 ghost use Rattle.nugwier_report.specs.Said.{saying};
 ghost use Rattle.nugwier_report.specs.declared.problem.Fault.TheVariants.{Read as IsRead};
 
+use crate::relocation_rows::{Machine, RelocationRow, Symbols, tell_relative};
 use crate::symbols::known_versions;
 use elf::abi;
 use elf::dynamic::DynamicTable;
@@ -44,17 +45,16 @@ use elf_dynamic::dynamic_view::{DynamicError, PltRelocations};
 use elf_dynamic::linked::LinkedBy;
 use elf_dynamic::relr::{RelrIterator, RelrTable, SHT_RELR};
 use elf_linking::indexed;
-use nugwier_records::relocations::{Machine, RelocationRow, Symbols, tell_relative};
+use nugwier_layouts::json::{Member, Value, number_value};
+use nugwier_layouts::layouts;
+use nugwier_report::headings::{counted_members, known_names};
+use nugwier_report::listed::ListedFile;
 use nugwier_report::names::{Labels, label_name};
 use nugwier_report::problem::{Fault, Item, Part, RelocationTable, Stop};
 use nugwier_report::rows::tell_records;
 use nugwier_report::tell::Tell;
-use nugwier_taking::headings::{counted_members, known_names, row_count};
-use nugwier_taking::listed::ListedFile;
-use nugwier_taking::typed_sections::{RELOCATION_TYPES, TypedSection, sections_of};
-use nugwier_taking::{linked, taking};
-use nugwier_writing::json::{Member, Value};
-use nugwier_writing::kind::Kind;
+use nugwier_report::typed_sections::{RELOCATION_TYPES, TypedSection, sections_of};
+use nugwier_report::{linked, reading};
 use std::alloc::Global;
 use std::marker::PhantomData;
 
@@ -124,7 +124,7 @@ fn tell_by_place<'f, E: EndianParse, R: ListedFile<E>, V: SymbolVersions<E>, T: 
         Ok(LinkedBy::Sections) => tell_sections(alloc, file, around, tell),
         Ok(LinkedBy::Entries(entries)) => tell_tables(&TABLES, file, &entries, around, tell),
         Ok(LinkedBy::Nothing) => Ok(()),
-        Err(error) => tell.problem(Part::Dynamic.whole(), Fault::Linked(error)),
+        Err(error) => tell.problem(Part::Dynamic.whole(), &error),
     }
 }
 
@@ -148,7 +148,7 @@ struct NamedSymbols<'f, E: EndianParse> {
 }
 
 // The symbols that relocations use, if there are any.
-type FoundSymbols<'f, E> = Result<Option<NamedSymbols<'f, E>>, Fault<'f>>;
+type FoundSymbols<'f, E> = Result<Option<NamedSymbols<'f, E>>, Fault>;
 
 // Where relocations are: in a section, by its number and its name, or in a table that a dynamic entry gives.
 #[derive(Clone, Copy)]
@@ -173,11 +173,11 @@ impl Place<'_> {
     {
         match self {
             Place::Section(number, name) => tell.state(
-                Kind::RelocationsHeading,
+                &layouts::RELOCATIONS_HEADING,
                 &counted_members(number, name, count),
             ),
             Place::Table(table) => tell.state(
-                Kind::RelocationTableHeading,
+                &layouts::RELOCATION_TABLE_HEADING,
                 &table_members(table, count),
             ),
         }
@@ -189,7 +189,7 @@ fn table_members(table: RelocationTable, count: Option<u64>) -> [Member<'static>
 {
     [
         ("table", Value::Text(Some(table.name().as_bytes()))),
-        ("count", row_count(count)),
+        ("count", number_value(count)),
     ]
 }
 
@@ -199,7 +199,7 @@ fn tell_placed<'a, E: EndianParse, V: SymbolVersions<E>, T: Tell>(
     place: Place<'a>,
     counted: Option<Records<'a, E>>,
     symbols: FoundSymbols<'a, E>,
-    records: Result<Records<'a, E>, Fault<'a>>,
+    records: Result<Records<'a, E>, Fault>,
     tell: &mut T,
 ) -> Result<(), Stop>
     ensures { OnOk result (tell.new ≡ saying T.one tell.old (placed_said (around_view V.versions around.now)
@@ -250,7 +250,7 @@ fn used_symbols<'a, E: EndianParse, V: SymbolVersions<E>, T: Tell>(
         Ok(Some(symbols)) => symbols,
         Ok(None) => return Ok(None),
         Err(fault) => {
-            tell.problem(part.item(Item::Symbols), fault)?;
+            tell.problem(part.item(Item::Symbols), &fault)?;
             return Ok(None);
         }
     };
@@ -272,7 +272,7 @@ fn tell_records_of<'a, E: EndianParse, V: SymbolVersions<E>, T: Tell>(
     part: Part,
     machine: Machine,
     symbols: Option<Symbols<'a, E, V>>,
-    records: Result<Records<'a, E>, Fault<'a>>,
+    records: Result<Records<'a, E>, Fault>,
     tell: &mut T,
 ) -> Result<(), Stop>
     ensures { OnOk result (tell.new ≡ saying T.one tell.old (records_said machine part
@@ -300,7 +300,7 @@ fn tell_records_of<'a, E: EndianParse, V: SymbolVersions<E>, T: Tell>(
             tell_records(relas, &row, tell)
         }
         Ok(Records::Relative(addresses)) => tell_relative(part, addresses, tell),
-        Err(fault) => tell.problem(part.whole(), fault),
+        Err(fault) => tell.problem(part.whole(), &fault),
     }
 }
 
@@ -482,8 +482,8 @@ fn tell_section<'f, E: EndianParse, R: ListedFile<E>, V: SymbolVersions<E>, T: T
 fn records_if<'f, E: EndianParse, R: ListedFile<E>>(
     file: &'f R,
     section: &SectionHeader,
-    bytes: Result<&[u8], Fault<'static>>,
-) -> Result<(Option<Records<'f, E>>, Result<Records<'f, E>, Fault<'f>>), Stop>
+    bytes: Result<&[u8], Fault>,
+) -> Result<(Option<Records<'f, E>>, Result<Records<'f, E>, Fault>), Stop>
     ensures counted { IfOk result (λ found. counted_view found.0 ≡ count_if (records_if
         (file_of (R.file file.now) (R.bytes file.now)) section.now (ok_map (λ bytes. bytes.now) bytes.entry))) }
     ensures records { IfOk result (λ found. ok_map records_view found.1 ≡ records_if
@@ -516,7 +516,7 @@ fn section_symbols<'f, E: EndianParse, R: ListedFile<E>>(
     if section.sh_type != abi::SHT_DYNSYM && section.sh_type != abi::SHT_SYMTAB {
         return Ok(Ok(None));
     }
-    match taking::symbols_of(file, &section)? {
+    match reading::symbols_of(file, &section)? {
         Ok((table, strings)) => Ok(Ok(Some(NamedSymbols {
             table,
             strings: TerminatedStrings::new(&strings),
@@ -530,20 +530,20 @@ fn section_symbols<'f, E: EndianParse, R: ListedFile<E>>(
 fn records_of<'f, E: EndianParse, R: ListedFile<E>>(
     file: &'f R,
     section: &SectionHeader,
-) -> Result<Result<Records<'f, E>, Fault<'f>>, Stop>
+) -> Result<Result<Records<'f, E>, Fault>, Stop>
     ensures { IfOk result (λ found. ok_map records_view found
         ≡ err_map IsRead (records_of (file_of (R.file file.now) (R.bytes file.now)) section.now)) }
 {
     match section.sh_type {
-        abi::SHT_REL => match taking::rels(file, section)? {
+        abi::SHT_REL => match reading::rels(file, section)? {
             Ok(rels) => Ok(Ok(Records::Rels(rels))),
             Err(error) => Ok(Err(Fault::Read(error))),
         },
-        SHT_RELR => match taking::relr(file, section)? {
+        SHT_RELR => match reading::relr(file, section)? {
             Ok(words) => Ok(Ok(relative(&words))),
             Err(error) => Ok(Err(Fault::Read(error))),
         },
-        _ => match taking::relas(file, section)? {
+        _ => match reading::relas(file, section)? {
             Ok(relas) => Ok(Ok(Records::Relas(relas))),
             Err(error) => Ok(Err(Fault::Read(error))),
         },

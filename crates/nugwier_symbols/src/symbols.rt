@@ -8,32 +8,32 @@ ghost use Rattle.elf_parts.specs.gnu_symver.Table.{versions_view};
 ghost use Rattle.elf_records.specs.Number.{ok_map};
 ghost use Rattle.elf_records.specs.Table.{table_view};
 ghost use Rattle.elf_records.specs.declared.symbol.Symbol.{Symbol as SymbolView};
-ghost use Rattle.nugwier_taking.specs.Read.{fault_said, if_read};
+ghost use Rattle.nugwier_report.specs.Reading.{fault_said, if_read};
 ghost use Rattle.nugwier_symbols.specs.Symbols.{AreAllSaid, AreExportsSaid, AreLinkedSaid, AreSymbolsSaid};
 ghost use Rattle.nugwier_symbols.specs.Symbols.{AreTableSaid, IsByKey, IsOrdered, heading_said, none_said, order_key};
 ghost use Rattle.nugwier_symbols.specs.Symbols.{rows_of, rows_said, said_of_dynamic_symbols, said_of_symbols};
-ghost use Rattle.nugwier_taking.specs.Whole.{file_of};
+ghost use Rattle.nugwier_report.specs.Whole.{file_of};
 ghost use Rattle.nugwier_report.specs.Said.{IsToldAs, Said, saying, whole};
-ghost use Rattle.nugwier_records.specs.Symbols.{form_view, order_of};
+ghost use Rattle.nugwier_symbols.specs.SymbolRows.{form_view, order_of};
 ghost use Rattle.nugwier_report.specs.declared.problem.Part.TheVariants.{Versions as VersionPart};
 
+use crate::symbol_options::{SymbolOptions, SymbolOrder};
+use crate::symbol_rows::{Form, Names, SymbolRow};
 use elf::endian::EndianParse;
 use elf::gnu_symver::{SymbolVersionTable, SymbolVersions};
 use elf::laws::tables::iter_gives_len_records;
 use elf::string_table::TerminatedStrings;
 use elf::symbol::{Symbol, SymbolTable};
 use elf_linking::indexed;
-use nugwier_records::symbols::{Form, Names, SymbolRow};
+use nugwier_layouts::layouts;
+use nugwier_report::headings::count_members;
+use nugwier_report::linked::{FoundVersions, linked_symbols, linked_versions};
+use nugwier_report::listed::ListedFile;
 use nugwier_report::problem::{Fault, Part, Stop};
+use nugwier_report::reading;
+use nugwier_report::reading::{FoundSymbols, Symbols};
 use nugwier_report::rows::{Renumbered, tell_records, tell_slice};
-use nugwier_report::symbol_options::{SymbolOptions, SymbolOrder};
 use nugwier_report::tell::Tell;
-use nugwier_taking::headings::count_members;
-use nugwier_taking::linked::{FoundVersions, linked_symbols, linked_versions};
-use nugwier_taking::listed::ListedFile;
-use nugwier_taking::taking;
-use nugwier_taking::taking::{FoundSymbols, Symbols};
-use nugwier_writing::kind::Kind;
 use std::alloc::{AllocError, Global};
 use std::marker::PhantomData;
 
@@ -46,7 +46,7 @@ pub fn tell_symbols<E: EndianParse, R: ListedFile<E>, T: Tell>(
     ensures { OnOk result (tell.new ≡ saying T.one tell.old
         (said_of_symbols (file_of (R.file file.now) (R.bytes file.now)))) }
 {
-    let found = taking::symbols(file)?;
+    let found = reading::symbols(file)?;
     tell_table(alloc, Part::Symbols, Form::Fields, found, Ok(None), tell)
 }
 
@@ -74,13 +74,13 @@ pub fn tell_letters<E: EndianParse, R: ListedFile<E>, T: Tell>(
 {
     let form = Form::Letter {
         sections: file.section_list(),
-        names: taking::name_bytes(file)?,
+        names: reading::name_bytes(file)?,
         options,
     };
     if options.is_dynamic {
         return tell_linked(alloc, form, file, tell);
     }
-    let found = taking::symbols(file)?;
+    let found = reading::symbols(file)?;
     tell_found(alloc, form, found, file, tell)
 }
 
@@ -155,7 +155,7 @@ fn tell_table<'f, E: EndianParse, T: Tell>(
     match found {
         Ok(Some(symbols)) => tell_versioned(alloc, part, form, symbols, versions, tell),
         Ok(None) => tell_none(part, form, tell),
-        Err(fault) => tell.problem(part.whole(), fault),
+        Err(fault) => tell.problem(part.whole(), &fault),
     }
 }
 
@@ -165,7 +165,7 @@ fn tell_none<T: Tell>(part: Part, form: Form<'_>, tell: &mut T) -> Result<(), St
 {
     match form {
         Form::Fields => Ok(()),
-        Form::Letter { .. } | Form::Export { .. } => tell.problem(part.whole(), Fault::Missing),
+        Form::Letter { .. } | Form::Export { .. } => tell.problem(part.whole(), &Fault::Missing),
     }
 }
 
@@ -209,7 +209,7 @@ pub fn known_versions<'f, E: EndianParse, T: Tell>(
     match versions {
         Ok(versions) => Ok(versions),
         Err(fault) => {
-            tell.problem(Part::Versions.whole(), fault)?;
+            tell.problem(Part::Versions.whole(), &fault)?;
             Ok(None)
         }
     }
@@ -220,8 +220,10 @@ fn tell_heading<T: Tell>(part: Part, form: Form<'_>, count: usize, tell: &mut T)
     ensures { OnOk result (tell.new ≡ saying T.one tell.old (heading_said (form_view form.entry) part count)) }
 {
     match (form, part) {
-        (Form::Fields, Part::Symbols) => { tell.state(Kind::SymbolsHeading, &count_members(count)) }
-        (Form::Fields, _) => tell.state(Kind::DynamicSymbolsHeading, &count_members(count)),
+        (Form::Fields, Part::Symbols) => {
+            tell.state(&layouts::SYMBOLS_HEADING, &count_members(count))
+        }
+        (Form::Fields, _) => tell.state(&layouts::DYNAMIC_SYMBOLS_HEADING, &count_members(count)),
         (Form::Letter { .. } | Form::Export { .. }, _) => Ok(()),
     }
 }

@@ -8,30 +8,43 @@ use thiserror::Error;
 #[derive(Copy, Clone, Debug, PartialEq, Eq, Error)]
 pub enum SegmentFault {
     /// Its bytes do not lie in the file.
-    #[error("does not lie in the file")]
     NoBytes,
     /// `PT_LOAD`, `PT_TLS`: it has more bytes in the file than in memory.
-    #[error("has more bytes in the file than in memory")]
     FileSize,
     /// `PT_LOAD`: it ends past the last address of the file's class.
-    #[error("ends past the last address")]
     PastAddresses,
     /// `PT_INTERP`: the last byte is not 0, or there is none.
-    #[error("does not end in a 0 byte")]
     NoLastNul,
     /// `PT_NOTE`: the note after the last one would begin at this byte of the segment, before its end, and there is
     /// none.
-    #[error("has no note at offset {offset:#x}")]
     NoNote { offset: usize },
     /// `PT_DYNAMIC`: the bytes are not a whole number of entries.
-    #[error("is not a whole number of entries")]
     PartOfEntry,
     /// `PT_DYNAMIC`: no entry has the tag `DT_NULL`.
-    #[error("has no entry DT_NULL")]
     EntriesWithoutEnd,
     /// `PT_DYNAMIC`: the first section of type `SHT_DYNAMIC` has other bytes.
-    #[error("has other bytes than the section SHT_DYNAMIC")]
     OtherSection,
+}
+
+impl fmt::Display for SegmentFault {
+    ghost use Rattle.elf_check.specs.Texts.{segment_text};
+
+    ghost output = { segment_text };
+
+    fn fmt<W: fmt::Write>(&self, f: &mut fmt::Formatter<W>) -> fmt::Result {
+        match self {
+            SegmentFault::NoBytes => f.write_str("does not lie in the file"),
+            SegmentFault::FileSize => f.write_str("has more bytes in the file than in memory"),
+            SegmentFault::PastAddresses => f.write_str("ends past the last address"),
+            SegmentFault::NoLastNul => f.write_str("does not end in a 0 byte"),
+            SegmentFault::NoNote { offset } => write!(f, "has no note at offset 0x{offset:x}"),
+            SegmentFault::PartOfEntry => f.write_str("is not a whole number of entries"),
+            SegmentFault::EntriesWithoutEnd => f.write_str("has no entry DT_NULL"),
+            SegmentFault::OtherSection => {
+                f.write_str("has other bytes than the section SHT_DYNAMIC")
+            }
+        }
+    }
 }
 
 /// The name of a segment's type, or its number if it has no name.
@@ -39,10 +52,15 @@ pub enum SegmentFault {
 struct TypeName(u32);
 
 impl fmt::Display for TypeName {
+    ghost use Rattle.std.specs.Prelude.{Some};
+    ghost use Rattle.elf_check.specs.Texts.{type_text};
+
+    ghost output = { λ name. Some (type_text name.0) };
+
     fn fmt<W: fmt::Write>(&self, f: &mut fmt::Formatter<W>) -> fmt::Result {
         match p_type_to_str(self.0) {
-            Some(name) => write!(f, "{name}"),
-            None => write!(f, "{:#x}", self.0),
+            Some(name) => f.write_str(name),
+            None => write!(f, "0x{:x}", self.0),
         }
     }
 }
@@ -52,46 +70,89 @@ impl fmt::Display for TypeName {
 #[derive(Copy, Clone, Debug, PartialEq, Eq, Error)]
 pub enum SegmentsFault {
     /// A second segment of type `PT_INTERP`.
-    #[error("segment {index} (PT_INTERP): segment {first} has this type too")]
     SecondInterp {
         first: usize,
         index: usize,
     },
     /// A second segment of type `PT_DYNAMIC`.
-    #[error("segment {index} (PT_DYNAMIC): segment {first} has this type too")]
     SecondDynamic {
         first: usize,
         index: usize,
     },
     /// A second segment of type `PT_PHDR`.
-    #[error("segment {index} (PT_PHDR): segment {first} has this type too")]
     SecondPhdr {
         first: usize,
         index: usize,
     },
     /// A second segment of type `PT_TLS`.
-    #[error("segment {index} (PT_TLS): segment {first} has this type too")]
     SecondTls {
         first: usize,
         index: usize,
     },
     /// A segment of type `PT_PHDR` after one of type `PT_LOAD`.
-    #[error("segment {index} (PT_PHDR): comes after segment {first} (PT_LOAD)")]
     PhdrAfterLoad {
         first: usize,
         index: usize,
     },
     /// A segment that is not sound, with its type. `segments_fault` returns the first one.
-    #[error("segment {index} ({}): {fault}", TypeName(*.p_type))]
     Segment {
         index: usize,
         p_type: u32,
         fault: SegmentFault,
     },
     /// A segment of type `PT_LOAD` that begins before the one before it of this type ends.
-    #[error("segment {index} (PT_LOAD): begins before the end of segment {first} (PT_LOAD)")]
     OverlappingLoad {
         first: usize,
         index: usize,
     },
+}
+
+impl fmt::Display for SegmentsFault {
+    ghost use Rattle.elf_check.specs.Texts.{segments_text};
+
+    ghost output = { segments_text };
+
+    fn fmt<W: fmt::Write>(&self, f: &mut fmt::Formatter<W>) -> fmt::Result {
+        match self {
+            SegmentsFault::SecondInterp { first, index } => {
+                write!(
+                    f,
+                    "segment {index} (PT_INTERP): segment {first} has this type too"
+                )
+            }
+            SegmentsFault::SecondDynamic { first, index } => {
+                write!(
+                    f,
+                    "segment {index} (PT_DYNAMIC): segment {first} has this type too"
+                )
+            }
+            SegmentsFault::SecondPhdr { first, index } => {
+                write!(
+                    f,
+                    "segment {index} (PT_PHDR): segment {first} has this type too"
+                )
+            }
+            SegmentsFault::SecondTls { first, index } => {
+                write!(
+                    f,
+                    "segment {index} (PT_TLS): segment {first} has this type too"
+                )
+            }
+            SegmentsFault::PhdrAfterLoad { first, index } => {
+                write!(
+                    f,
+                    "segment {index} (PT_PHDR): comes after segment {first} (PT_LOAD)"
+                )
+            }
+            SegmentsFault::Segment {
+                index,
+                p_type,
+                fault,
+            } => write!(f, "segment {index} ({}): {fault}", TypeName(*p_type)),
+            SegmentsFault::OverlappingLoad { first, index } => write!(
+                f,
+                "segment {index} (PT_LOAD): begins before the end of segment {first} (PT_LOAD)"
+            ),
+        }
+    }
 }

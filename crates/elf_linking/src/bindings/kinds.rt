@@ -20,20 +20,41 @@ use elf::string_table::TerminatedStrings;
 use elf::symbol::{Symbol, SymbolTable};
 use elf::{ParseError, abi};
 use std::alloc::{AllocError, Global};
+use std::fmt;
 use thiserror::Error;
 
 /// Why it is not known what a symbol binds to.
 #[derive(Debug, Drop, Error)]
 pub enum SymbolFault {
     /// Its name cannot be read.
-    #[error("{0}")]
     Name(ParseError),
     /// Its version cannot be read.
-    #[error("{0}")]
     Version(Unreadable),
     /// The version of a symbol of an object cannot be read.
-    #[error("{0}")]
     Object(BindingFault),
+}
+
+impl fmt::Display for SymbolFault {
+    ghost use Rattle.elf_linking.specs.Texts.{symbol_text};
+
+    ghost output = { symbol_text };
+
+    fn fmt<W: fmt::Write>(&self, f: &mut fmt::Formatter<W>) -> fmt::Result {
+        match self {
+            SymbolFault::Name(error) => write!(f, "{error}"),
+            SymbolFault::Version(version) => {
+                write!(f, "version of symbol {} cannot be read", version.symbol)
+            }
+            SymbolFault::Object(version) => {
+                let object = version.object;
+                let symbol = version.symbol;
+                write!(
+                    f,
+                    "object {object}: version of symbol {symbol} cannot be read"
+                )
+            }
+        }
+    }
 }
 
 /// What a symbol binds to, by each kind of reference for which it is looked up.

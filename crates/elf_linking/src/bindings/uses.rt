@@ -16,6 +16,7 @@ use elf::relocation::Relocation;
 use elf::section::SectionHeader;
 use elf::{ParseError, ReadError, abi};
 use elf_dynamic::dynamic_view::DynamicError;
+use std::fmt;
 use thiserror::Error;
 
 /// The kinds of references that relocations make to a symbol.
@@ -37,15 +38,28 @@ pub const NO_USES: SymbolUses = SymbolUses {
 #[derive(Debug, Drop, Error)]
 pub enum UsesError {
     /// A section of relocations cannot be read.
-    #[error("{0}")]
     Read(ParseError),
     /// The sections of relocations are together larger than the file.
-    #[error("the sections of relocations are larger than the file")]
     TooLarge,
     /// The relocations are not available: of a file that declares no section headers through its segments, or since a
     /// range is not loaded (`DynamicError::Missing`).
-    #[error("{0}")]
     Dynamic(DynamicError),
+}
+
+impl fmt::Display for UsesError {
+    ghost use Rattle.elf_linking.specs.Texts.{uses_text};
+
+    ghost output = { uses_text };
+
+    fn fmt<W: fmt::Write>(&self, f: &mut fmt::Formatter<W>) -> fmt::Result {
+        match self {
+            UsesError::Read(error) => write!(f, "{error}"),
+            UsesError::TooLarge => {
+                f.write_str("the sections of relocations are larger than the file")
+            }
+            UsesError::Dynamic(error) => write!(f, "{error}"),
+        }
+    }
 }
 
 impl From<DynamicError> for UsesError {

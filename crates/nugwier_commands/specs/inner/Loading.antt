@@ -4,26 +4,26 @@ use Rattle.std.specs.List.{flat_map}
 use Rattle.elf_archive.specs.Archive.{Item}
 use Rattle.elf_libraries.specs.Tree.{Found, file_of, without_bytes}
 use Rattle.elf_records.specs.Number.{ok_map}
-use Rattle.nugwier_commands.specs.Run.{IsItemSaid, IsPrinted, IsWrong, Known, Listing, lost_fault}
+use Rattle.nugwier_commands.specs.Run.{IsItemSaid, IsPrinted, IsWrong, Known, Listing, lost_text}
 use Rattle.nugwier_commands.specs.declared.run.Outcome.{Outcome}
 use Rattle.nugwier_commands.specs.declared.run.Outcome.TheVariants.{Done, Stopped, Wrong}
 use Rattle.nugwier_commands.specs.declared.target.LostHeaders.{LostHeaders}
 use Rattle.nugwier_programs.specs.Bindings.{IsBoundSaid}
 use Rattle.nugwier_programs.specs.Tree.{IsNamedSaid, Search}
-use Rattle.nugwier_report.specs.Formats.{front}
+use Rattle.nugwier_commands.specs.Formats.{front}
 use Rattle.nugwier_report.specs.Labels.{Named, no_sections}
-use Rattle.nugwier_report.specs.Said.{Line, Said, on_page, said_if, saying, whole, wrong}
+use Rattle.nugwier_report.specs.Said.{Line, Said, on_page, said_if, saying, whole, warns}
 use Rattle.nugwier_report.specs.Texts.{Written}
 use Rattle.nugwier_report.specs.declared.problem.Part.TheVariants.{SectionHeaders}
 use Rattle.nugwier_report.specs.declared.problem.Stop.{Stop}
 use Rattle.nugwier_report.specs.declared.problem.Stop.TheVariants.{Memory as IsMemory}
 use Rattle.nugwier_report.specs.declared.report.Summary.{Summary}
-use Rattle.nugwier_words.specs.Words.{Task}
-use Rattle.nugwier_words.specs.declared.words.Command.{Command}
-use Rattle.nugwier_words.specs.declared.words.Command.TheVariants.{Bindings}
-use Rattle.nugwier_words.specs.declared.words.WordError.{WordError}
-use Rattle.nugwier_words.specs.declared.words.WordError.TheVariants.{Memory}
-use Rattle.nugwier_writing.specs.declared.kind.Kind.{Kind}
+use Rattle.nugwier_commands.specs.Words.{Task}
+use Rattle.nugwier_commands.specs.declared.words.Command.{Command}
+use Rattle.nugwier_commands.specs.declared.words.Command.TheVariants.{Bindings}
+use Rattle.nugwier_commands.specs.declared.words.WordError.{WordError}
+use Rattle.nugwier_commands.specs.declared.words.WordError.TheVariants.{Memory}
+use Rattle.nugwier_commands.specs.declared.target.Heading.{Heading}
 
 -- ---- a report
 
@@ -42,7 +42,7 @@ module _ {R : Type 0} (one : R → Line → R) where
   IsTried Say before after false = after ≡ before
 
 -- what a run says of an item of an archive
-abbrev pub IsOneItem : Known → Task → Option Kind → List ℕ → Item → List Listing → Type 0
+abbrev pub IsOneItem : Known → Task → Option Heading → List ℕ → Item → List Listing → Type 0
 IsOneItem known task heading path item all =
     (own : Listing) × IsItemSaid known task heading path item own × (all ≡ own ∷ [])
 
@@ -50,7 +50,7 @@ IsOneItem known task heading path item all =
 
 -- that section headers cannot be read, if this is why
 abbrev pub unread_said : Option LostHeaders → List Said
-unread_said lost = said_if (λ lost. wrong (whole SectionHeaders) (lost_fault lost.error lost.len) ∷ []) lost
+unread_said lost = said_if (λ lost. warns (whole SectionHeaders) (lost_text lost.error lost.len) ∷ []) lost
 
 -- that, and then what this says of the file
 abbrev pub IsSaidAfter : Option LostHeaders → (Named → List Said → Type 0) → Named → List Said → Type 0

@@ -22,8 +22,8 @@ use Rattle.nugwier_programs.specs.declared.bindings.objects.BoundFile.{BoundFile
 use Rattle.nugwier_programs.specs.declared.bindings.objects.OpenFile.{OpenFile as GivenFile}
 use Rattle.nugwier_programs.specs.declared.bindings.objects.SearchFault.{SearchFault}
 use Rattle.nugwier_programs.specs.declared.bindings.objects.SearchFault.TheVariants as fault
-use Rattle.nugwier_report.specs.declared.problem.Fault.{Fault}
-use Rattle.nugwier_report.specs.declared.problem.Fault.TheVariants.{NoHash, Object}
+use Rattle.nugwier_programs.specs.declared.faults.Fault.{Fault}
+use Rattle.nugwier_programs.specs.declared.faults.Fault.TheVariants.{NoHash, Object}
 
 -- what is loaded of the file at a path
 abbrev pub open_at : List ℕ → StreamView AnyEndian → OpenFile

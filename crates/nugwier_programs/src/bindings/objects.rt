@@ -11,19 +11,20 @@ ghost use Rattle.nugwier_programs.specs.declared.bindings.objects.SearchFault.Th
 ghost use Rattle.nugwier_report.specs.Said.{saying};
 
 use crate::bindings::opening::{Linked, load_object};
+use crate::faults::Fault;
 use crate::tree::FILE;
 use elf::endian::AnyEndian;
 use elf::gnu_symver::SymbolVersionTable;
 use elf::string_table::TerminatedStrings;
 use elf::symbol::SymbolTable;
 use elf_hash_check::hashcheck::AnyChecked;
+use elf_libraries::files::Files;
 use elf_libraries::tree::Object;
 use elf_linking::VersionedObject;
 use elf_linking::bindings::{IndexedObject, with_index};
 use elf_linking::dynamic::{dynamic_object, dynamic_symbols};
 use elf_linking::resolve::ObjectFault;
-use nugwier_files::files::Files;
-use nugwier_report::problem::{Fault, Stop};
+use nugwier_report::problem::Stop;
 use nugwier_report::quoted::Quoted;
 use nugwier_report::tell::Tell;
 use std::alloc::{AllocError, Global};
@@ -83,11 +84,11 @@ pub(crate) fn open_file<'a, F: Files, T: Tell>(
         Some(Ok(file)) => Ok(Some(OpenFile { path, file })),
         Some(Err(error)) => {
             let fault = ObjectFault::Read(error);
-            tell.problem(FILE, Fault::Object(Quoted::new(path), fault))?;
+            tell.problem(FILE, &Fault::Object(Quoted::new(path), fault))?;
             Ok(None)
         }
         None => {
-            tell.problem(FILE, Fault::Unread(Quoted::new(path)))?;
+            tell.problem(FILE, &Fault::Unread(Quoted::new(path)))?;
             Ok(None)
         }
     }
@@ -170,7 +171,7 @@ pub(crate) fn add_file<'a, T: Tell>(
         }
         Ok(None) => Ok(()),
         Err(fault) => {
-            tell.problem(FILE, problem_of(file.path, fault))?;
+            tell.problem(FILE, &problem_of(file.path, fault))?;
             Ok(())
         }
     }

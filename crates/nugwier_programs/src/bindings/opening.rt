@@ -9,10 +9,10 @@ ghost use Rattle.nugwier_programs.specs.inner.Scope.{open_at};
 
 use elf::endian::AnyEndian;
 use elf::{Closed, ElfBytes, ElfStream, MemSource, ParseError, StreamSource};
+use elf_libraries::files::Files;
+use elf_libraries::opening::Opening;
 use elf_libraries::tree::LoadedFile;
 use elf_linking::links::load_links;
-use nugwier_files::files::Files;
-use nugwier_files::opening::Opening;
 use std::alloc::{AllocError, Global};
 
 /// What is loaded of a file, whose source is closed.

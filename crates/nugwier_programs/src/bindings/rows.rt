@@ -12,23 +12,24 @@ ghost use Rattle.nugwier_programs.specs.Bindings.{uses_problem};
 ghost use Rattle.nugwier_programs.specs.Symbols.{calls_word, one_problems, one_said, outcome_problem, quoted};
 ghost use Rattle.nugwier_programs.specs.Symbols.{reference_problem, reference_said, symbol_problems, symbol_said};
 ghost use Rattle.nugwier_programs.specs.inner.Scope.{file_view, indexed_view, open_at, scope_paths, versions_of};
-ghost use Rattle.nugwier_records.specs.Bindings.{bound_view};
+ghost use Rattle.nugwier_programs.specs.BindingRows.{bound_view};
 ghost use Rattle.nugwier_report.specs.Said.{Said, saying};
 
+use crate::binding_rows::{BoundSymbol, Place, tell_binding};
 use crate::bindings::objects::BoundFile;
 use crate::bindings::targets::{Outcome, Scope, Versions, address_place, bound_symbol};
+use crate::faults::{Fault, QuotedSymbol, UnknownBinding};
 use crate::tree::FILE;
 use elf::symbol::Symbol;
 use elf_linking::bindings::Bound;
 use elf_linking::bindings::kinds::{SymbolBinding, SymbolFault, bind_symbols, bound_symbols};
 use elf_linking::bindings::uses::{NO_USES, SymbolUses, UsesError, uses_at};
 use elf_linking::dynamic::add_dynamic_uses;
-use nugwier_records::bindings::{BoundSymbol, Place, tell_binding};
-use nugwier_report::problem::{Fault, Stop};
-use nugwier_report::quoted::{Quoted, QuotedSymbol, UnknownBinding};
+use nugwier_layouts::json::Value;
+use nugwier_layouts::layouts;
+use nugwier_report::problem::Stop;
+use nugwier_report::quoted::Quoted;
 use nugwier_report::tell::Tell;
-use nugwier_writing::json::Value;
-use nugwier_writing::kind::Kind;
 use std::alloc::{AllocError, Global};
 
 // A symbol that is bound, with its index, and what it binds to.
@@ -66,12 +67,12 @@ pub(crate) fn tell_file<T: Tell>(
 fn tell_heading<T: Tell>(place: usize, file: &BoundFile<'_>, tell: &mut T) -> Result<(), Stop>
     ensures { OnOk result (tell.new ≡ saying T.one tell.old (file_heading place file.now.path.now)) }
 {
-    let kind = if place == 0 {
-        Kind::FileHeading
+    let layout = if place == 0 {
+        &layouts::FILE_HEADING
     } else {
-        Kind::NextFileHeading
+        &layouts::NEXT_FILE_HEADING
     };
-    tell.state(kind, &[("path", Value::Text(Some(file.path)))])
+    tell.state(layout, &[("path", Value::Text(Some(file.path)))])
 }
 
 // What the relocations of a file refer to. Says if they cannot be read.
@@ -116,7 +117,7 @@ fn read_uses<T: Tell>(
         Ok(()) => Ok(()),
         Err(error) => {
             let path = Quoted::new(file.path);
-            tell.problem(FILE, Fault::Relocations(path, error))
+            tell.problem(FILE, &Fault::Relocations(path, error))
         }
     }
 }
@@ -287,16 +288,16 @@ fn tell_outcome<T: Tell>(
 {
     let path = Quoted::new(symbol.path);
     match outcome {
-        Ok(Bound::Missing) => tell.problem(FILE, Fault::MissingSymbol(path, quoted(symbol))),
+        Ok(Bound::Missing) => tell.problem(FILE, &Fault::MissingSymbol(path, quoted(symbol))),
         Ok(_) => Ok(()),
         Err(SymbolFault::Object(version)) => {
             let other = Quoted::new(scope.path(version.object));
             let told = Fault::UnknownVersion(path, quoted(symbol), other, version.symbol);
-            tell.problem(FILE, told)
+            tell.problem(FILE, &told)
         }
         Err(fault) => {
             let unknown = UnknownBinding::new(fault);
-            tell.problem(FILE, Fault::UnknownSymbol(path, quoted(symbol), unknown))
+            tell.problem(FILE, &Fault::UnknownSymbol(path, quoted(symbol), unknown))
         }
     }
 }

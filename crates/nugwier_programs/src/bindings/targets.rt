@@ -7,8 +7,9 @@ ghost use Rattle.nugwier_programs.specs.Symbols.{address_place, bound_place, own
 ghost use Rattle.nugwier_programs.specs.Symbols.{same_place};
 ghost use Rattle.nugwier_programs.specs.Symbols.{symbol_in, symbol_of, target_of, wanted_version};
 ghost use Rattle.nugwier_programs.specs.inner.Scope.{indexed_view, scope_paths, versions_of};
-ghost use Rattle.nugwier_records.specs.Bindings.{bound_view, target_view, version_view};
+ghost use Rattle.nugwier_programs.specs.BindingRows.{bound_view, target_view, version_view};
 
+use crate::binding_rows::{BoundSymbol, OwnVersion, Place, Target};
 use crate::bindings::objects::BoundFile;
 use elf::endian::AnyEndian;
 use elf::gnu_symver::IndexedVersions;
@@ -17,7 +18,6 @@ use elf_linking::bindings::kinds::SymbolFault;
 use elf_linking::bindings::{Bound, IndexedObject};
 use elf_linking::{Wanted, reference};
 use elf_tools::symbol_versions::{SymbolVersion, symbol_version};
-use nugwier_records::bindings::{BoundSymbol, OwnVersion, Place, Target};
 use std::alloc::Global;
 
 /// The versions of the symbols of a file.

@@ -1,5 +1,5 @@
 use Rattle.std.proofs.Common.{rules}
-use Rattle.nugwier_programs.proofs.Texts.{no_text, text}
+use Rattle.elf_libraries.proofs.Texts.{no_text, text}
 use Rattle.nugwier_commands.proofs.archive.member_path.Goals as goal
 
 pub returns-in-Ok : goal.returns-in-Ok

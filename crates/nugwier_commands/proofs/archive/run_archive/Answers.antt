@@ -4,9 +4,9 @@ use Rattle.elf_archive.specs.declared.archive.ArchiveError.{ArchiveError}
 use Rattle.elf_records.specs.Number.{ok_map}
 use Rattle.nugwier_commands.specs.Run.{AreItemsSaid, AreMembersSaid, IsProblemSaid, broken, items_of, listing_of}
 use Rattle.nugwier_commands.proofs.Lifting.{from_one, then_told}
-use Rattle.nugwier_words.specs.Words.{task_of}
-use Rattle.nugwier_writing.specs.declared.kind.Kind.{Kind}
+use Rattle.nugwier_commands.specs.Words.{task_of}
 use Rattle.nugwier_commands.proofs.archive.run_archive.Goals as goal
+use Rattle.nugwier_commands.specs.declared.target.Heading.{Heading}
 
 -- the bytes begin as no archive does
 pub returns-in-Err : goal.returns-in-Err
@@ -21,7 +21,7 @@ returns-in-Err g c =
     (from_one heading path (IsProblemSaid (broken c.in-Err.error)) All
     (λ named said h.
     let own = listing_of heading path named said in
-    subst (λ (k : Option Kind). AreItemsSaid known task k path (items_of (members_in c.args.bytes.now)) (own ∷ [])) c.first_heading.ensures
+    subst (λ (k : Option Heading). AreItemsSaid known task k path (items_of (members_in c.args.bytes.now)) (own ∷ [])) c.first_heading.ensures
     (subst (λ (r : Result (List Item) ArchiveError). AreItemsSaid known task heading path (items_of r) (own ∷ [])) (sym is)
     (own, [], (named, said, h, refl), refl, refl))))
     c.tell_broken.ensures

@@ -4,8 +4,8 @@ use Rattle.std.specs.declared.io.ErrorKind.TheVariants.{OutOfMemory}
 use Rattle.nugwier_commands.specs.Run.{IsBytesSaid, IsElfSaid, IsOne, IsProblemSaid, IsSaidAt}
 use Rattle.nugwier_commands.proofs.Begun.{missing_as, missing_from, read_as}
 use Rattle.nugwier_commands.proofs.Lifting.{one_of, then_told, told_if}
-use Rattle.nugwier_report.specs.declared.problem.Fault.TheVariants.{System}
-use Rattle.nugwier_words.specs.Words.{task_of}
+use Rattle.std.specs.Prelude.{None}
+use Rattle.nugwier_commands.specs.Words.{task_of}
 use Rattle.nugwier_commands.proofs.archive.run_elsewhere.Goals as goal
 
 pub returns-in-Ok : goal.returns-in-Ok
@@ -29,6 +29,6 @@ returns-in-Err g c =
     let IsSaid = IsElfSaid (IsBytesSaid task path) in
     let error = c.in-Err.error in
     told_if g.R.Run.one (error_kind error ≢ OutOfMemory) c.tell_unread.result _ _ _ (IsOne heading path (IsSaidAt known IsSaid c.args.path.now))
-    (λ other. one_of heading path (IsProblemSaid (System error)) (IsSaidAt known IsSaid c.args.path.now)
-    (λ named said h. missing_as known IsSaid c.args.path.now error named said (missing_from known c.args.path.now (error_kind error) c.in-Err.ensures.error other) h))
+    (λ other. one_of heading path (IsProblemSaid None) (IsSaidAt known IsSaid c.args.path.now)
+    (λ named said h. missing_as known IsSaid c.args.path.now named said (missing_from known c.args.path.now (error_kind error) c.in-Err.ensures.error other) h))
     c.tell_unread.ensures.reason c.tell_unread.ensures.told

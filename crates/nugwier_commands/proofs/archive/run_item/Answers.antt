@@ -5,7 +5,7 @@ use Rattle.elf_archive.specs.declared.archive.Member.{Member}
 use Rattle.nugwier_commands.specs.Run.{IsItemSaid, IsProblemSaid, broken, listing_of}
 use Rattle.nugwier_commands.specs.inner.Loading.{IsOneItem}
 use Rattle.nugwier_commands.proofs.Lifting.{from_one, then_told}
-use Rattle.nugwier_words.specs.Words.{task_of}
+use Rattle.nugwier_commands.specs.Words.{task_of}
 use Rattle.nugwier_commands.proofs.archive.run_item.Goals as goal
 
 pub returns-in-Err : goal.returns-in-Err

@@ -3,7 +3,7 @@ use Rattle.elf_archive.specs.Archive.{member_view}
 use Rattle.nugwier_commands.specs.Run.{IsBytesSaid, IsElfSaid, IsHeldSaid, listing_of, member_path}
 use Rattle.nugwier_commands.specs.inner.Loading.{IsOneItem}
 use Rattle.nugwier_commands.proofs.Lifting.{from_one, then_told}
-use Rattle.nugwier_words.specs.Words.{task_of}
+use Rattle.nugwier_commands.specs.Words.{task_of}
 use Rattle.nugwier_commands.proofs.archive.run_member.Goals as goal
 
 pub returns : goal.returns

@@ -1,7 +1,7 @@
 use Rattle.std.proofs.Common.{length}
 use Rattle.elf_archive.specs.Archive.{members_left}
 use Rattle.nugwier_commands.proofs.AllFiles.{AreMembersSoFar}
-use Rattle.nugwier_words.specs.Words.{task_of}
+use Rattle.nugwier_commands.specs.Words.{task_of}
 use Rattle.nugwier_commands.proofs.archive.run_members.Given as goal
 
 -- the members so far were told

@@ -1,13 +1,13 @@
-use Rattle.std.proofs.Common.{◌≡◌, ◌∙◌, ◌∷◌, [], ℕ, List, ap, subst, refl, rules}
+use Rattle.std.proofs.Common.{◌≡◌, ◌∙◌, ◌∷◌, [], ℕ, List, ap, subst, rules}
 use Rattle.std.specs.Str.{is_utf8}
 use Rattle.nugwier_commands.specs.Run.{IsBytesSaid, IsElfSaid, IsOne, IsOutsideSaid, IsProblemSaid, IsSaidAt, outside_path}
 use Rattle.nugwier_commands.proofs.Lifting.{one_of, then_told}
-use Rattle.nugwier_programs.proofs.Texts.{no_text, text}
-use Rattle.nugwier_report.specs.Said.{Said, whole, wrong}
-use Rattle.nugwier_report.specs.declared.problem.Fault.{Fault}
-use Rattle.nugwier_report.specs.declared.problem.Fault.TheVariants.{OtherFormat}
+use Rattle.elf_libraries.proofs.Texts.{no_text, text}
+use Rattle.nugwier_report.specs.Said.{warns, whole}
+use Rattle.std.specs.Prelude.{Some}
+use Rattle.nugwier_commands.specs.Formats.{not_elf_text}
 use Rattle.nugwier_report.specs.declared.problem.Part.TheVariants.{File}
-use Rattle.nugwier_words.specs.Words.{task_of}
+use Rattle.nugwier_commands.specs.Words.{task_of}
 use Rattle.nugwier_commands.proofs.archive.run_outside.Goals as goal
 
 pub returns-in_default : goal.returns-in_default
@@ -19,8 +19,8 @@ returns-in_default g c =
     let name = c.args.name.now in
     let Says = IsOutsideSaid known (IsElfSaid (IsBytesSaid task path)) c.args.archive.now name (is_utf8 name) in
     then_told g.R.Run.one c.tell_problem.result _ _ _ (IsOne heading path Says)
-    (one_of heading path (IsProblemSaid (OtherFormat c.new-name.result)) Says
-    (λ named said h. rw (no_text name c.in_default.ensures.cases.0) (h.0, h.1 ∙ ap (λ (q : List ℕ). wrong (whole File) (OtherFormat q) ∷ []) c.new-name.ensures)))
+    (one_of heading path (IsProblemSaid (not_elf_text (Some c.new-name.result))) Says
+    (λ named said h. rw (no_text name c.in_default.ensures.cases.0) (h.0, h.1 ∙ ap (λ (q : List ℕ). warns (whole File) (not_elf_text (Some q)) ∷ []) c.new-name.ensures)))
     c.tell_problem.ensures
 
 pub returns : goal.returns

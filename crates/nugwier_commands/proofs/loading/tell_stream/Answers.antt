@@ -8,8 +8,8 @@ use Rattle.nugwier_commands.specs.inner.Loading.{IsSaidAfter}
 use Rattle.nugwier_commands.proofs.Lifting.{as_told, one_of}
 use Rattle.nugwier_report.specs.Labels.{Named}
 use Rattle.nugwier_report.specs.Said.{Said}
-use Rattle.nugwier_taking.specs.Whole.{file_of, stream_range}
-use Rattle.nugwier_words.specs.Words.{Task, task_of}
+use Rattle.nugwier_report.specs.Whole.{file_of, stream_range}
+use Rattle.nugwier_commands.specs.Words.{Task, task_of}
 use Rattle.nugwier_commands.proofs.loading.tell_stream.Goals as goal
 
 -- what is said of the file of a stream is said of the file that its content holds

@@ -2,7 +2,7 @@ use Rattle.std.proofs.Common.{None, map}
 use Rattle.nugwier_commands.specs.Run.{first_heading}
 use Rattle.nugwier_commands.specs.Walk.{named, places_of}
 use Rattle.nugwier_commands.proofs.AllFiles.{ArePlacesSoFar}
-use Rattle.nugwier_words.specs.Words.{task_of}
+use Rattle.nugwier_commands.specs.Words.{task_of}
 use Rattle.nugwier_commands.proofs.places.run_places.Given as goal
 
 -- what was found so far was told

@@ -6,7 +6,7 @@ use Rattle.nugwier_commands.specs.Run.{IsBytesSaid, IsOne, IsViewSaid}
 use Rattle.nugwier_commands.specs.inner.Loading.{IsSaidAfter}
 use Rattle.nugwier_commands.proofs.Lifting.{one_of, then_told}
 use Rattle.nugwier_commands.proofs.Unopened.{opened_said}
-use Rattle.nugwier_words.specs.Words.{task_of}
+use Rattle.nugwier_commands.specs.Words.{task_of}
 use Rattle.nugwier_commands.proofs.run.run_bytes.Goals as goal
 
 pub returns-in-Ok : goal.returns-in-Ok

@@ -1,7 +1,7 @@
 use Rattle.nugwier_commands.specs.Run.{IsContentSaid, IsOne, IsProgramSaid}
 use Rattle.nugwier_commands.proofs.Lifting.{one_of, then_told}
 use Rattle.nugwier_commands.proofs.Programs.{bindings_content, tree_content}
-use Rattle.nugwier_words.specs.Words.{task_of}
+use Rattle.nugwier_commands.specs.Words.{task_of}
 use Rattle.nugwier_commands.proofs.run.run_content.Goals as goal
 
 pub returns-in-Tree : goal.returns-in-Tree

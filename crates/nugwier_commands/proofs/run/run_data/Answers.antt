@@ -2,8 +2,8 @@ use Rattle.std.proofs.Common.{sym, ap, ◌∙◌}
 use Rattle.nugwier_commands.specs.Run.{AreBytesSaid, IsContentSaid, IsElfSaid}
 use Rattle.nugwier_commands.proofs.Begun.{one_file}
 use Rattle.nugwier_commands.proofs.Lifting.{from_one, then_told}
-use Rattle.nugwier_report.specs.Formats.{front}
-use Rattle.nugwier_words.specs.Words.{task_of}
+use Rattle.nugwier_commands.specs.Formats.{front}
+use Rattle.nugwier_commands.specs.Words.{task_of}
 use Rattle.nugwier_commands.proofs.run.run_data.Goals as goal
 
 pub returns-else-is_archive : goal.returns-else-is_archive

@@ -1,10 +1,10 @@
-use Rattle.std.proofs.Common.{◌≡◌, ℕ, List, subst}
+use Rattle.std.proofs.Common.{ℕ, List, subst}
 use Rattle.std.proofs.lemmas.List.{drop_all}
 use Rattle.std.specs.Borrow.{Bor}
 use Rattle.nugwier_commands.specs.Run.{AreFilesSaid}
 use Rattle.nugwier_commands.specs.inner.Loading.{AreTold}
 use Rattle.nugwier_commands.proofs.AllFiles.{files_told, first_of_all, one_told}
-use Rattle.nugwier_words.specs.Words.{task_of}
+use Rattle.nugwier_commands.specs.Words.{task_of}
 use Rattle.nugwier_commands.proofs.run.run_files.Goals as goal
 
 pub loop-place-init : goal.loop-place-init

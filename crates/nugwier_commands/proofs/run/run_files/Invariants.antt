@@ -1,5 +1,5 @@
 use Rattle.nugwier_commands.proofs.AllFiles.{AreFilesSoFar}
-use Rattle.nugwier_words.specs.Words.{task_of}
+use Rattle.nugwier_commands.specs.Words.{task_of}
 use Rattle.nugwier_commands.proofs.run.run_files.Given as goal
 
 -- the files so far were told

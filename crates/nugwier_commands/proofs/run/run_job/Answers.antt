@@ -2,7 +2,7 @@ use Rattle.std.proofs.Common.{ap}
 use Rattle.std.proofs.lemmas.Result.{IfOk-weaker}
 use Rattle.nugwier_commands.proofs.Reported.{task_done}
 use Rattle.nugwier_report.specs.Texts.{Written}
-use Rattle.nugwier_words.specs.Words.{task_of}
+use Rattle.nugwier_commands.specs.Words.{task_of}
 use Rattle.nugwier_commands.proofs.run.run_job.Goals as goal
 
 pub returns : goal.returns

@@ -1,7 +1,7 @@
 use Rattle.elf.specs.ElfBytes.{view}
 use Rattle.elf_reading.specs.Opening.{headers_of}
 use Rattle.nugwier_commands.proofs.Unopened.{memory_told}
-use Rattle.nugwier_words.specs.Words.{task_of}
+use Rattle.nugwier_commands.specs.Words.{task_of}
 use Rattle.nugwier_commands.proofs.run.run_opened.Goals as goal
 
 pub returns : goal.returns

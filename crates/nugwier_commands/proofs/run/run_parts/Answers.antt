@@ -2,7 +2,7 @@ use Rattle.nugwier_commands.specs.Run.{IsContentSaid, IsOne, IsProgramSaid, IsSa
 use Rattle.nugwier_commands.proofs.Begun.{said_as}
 use Rattle.nugwier_commands.proofs.Lifting.{one_of, then_tried}
 use Rattle.nugwier_commands.proofs.Programs.{bindings_content, tree_content}
-use Rattle.nugwier_words.specs.Words.{task_of}
+use Rattle.nugwier_commands.specs.Words.{task_of}
 use Rattle.nugwier_commands.proofs.run.run_parts.Goals as goal
 
 pub returns-in-Tree : goal.returns-in-Tree

@@ -3,7 +3,7 @@ use Rattle.nugwier_commands.specs.Run.{IsOne, IsProgramSaid, IsSaidAt, search_of
 use Rattle.nugwier_commands.specs.inner.Loading.{IsNamedProgramSaid}
 use Rattle.nugwier_commands.proofs.Lifting.{as_told, one_of}
 use Rattle.nugwier_commands.proofs.Named.{named_said}
-use Rattle.nugwier_words.specs.Words.{task_of}
+use Rattle.nugwier_commands.specs.Words.{task_of}
 use Rattle.nugwier_commands.proofs.run.run_program.Goals as goal
 
 pub returns : goal.returns

@@ -4,8 +4,8 @@ use Rattle.std.proofs.Common.{◌≢◌}
 use Rattle.nugwier_commands.specs.Run.{ArePathSaid, IsProblemSaid}
 use Rattle.nugwier_commands.proofs.Begun.{missing_from, missing_said}
 use Rattle.nugwier_commands.proofs.Lifting.{from_one, told_if}
-use Rattle.nugwier_report.specs.declared.problem.Fault.TheVariants.{System}
-use Rattle.nugwier_words.specs.Words.{task_of}
+use Rattle.std.specs.Prelude.{None}
+use Rattle.nugwier_commands.specs.Words.{task_of}
 use Rattle.nugwier_commands.proofs.run.run_read.Goals as goal
 
 pub returns-in-Err : goal.returns-in-Err
@@ -16,6 +16,6 @@ returns-in-Err g c =
     let path = c.args.target.path.now in
     let error = c.in-Err.error in
     told_if g.R.Run.one (error_kind error ≢ OutOfMemory) c.tell_unread.result _ _ _ (ArePathSaid known task heading path)
-    (λ other. from_one heading path (IsProblemSaid (System error)) (ArePathSaid known task heading path)
-    (λ named said h. missing_said known task heading path error named said (missing_from known path (error_kind error) c.in-Err.ensures.error other) h))
+    (λ other. from_one heading path (IsProblemSaid None) (ArePathSaid known task heading path)
+    (λ named said h. missing_said known task heading path named said (missing_from known path (error_kind error) c.in-Err.ensures.error other) h))
     c.tell_unread.ensures.reason c.tell_unread.ensures.told

@@ -1,9 +1,9 @@
-use Rattle.std.proofs.Common.{sym, ap, ◌∙◌}
+use Rattle.std.proofs.Common.{sym, ◌∙◌}
+use Rattle.nugwier_commands.specs.Formats.{not_elf_text}
 use Rattle.nugwier_commands.specs.Run.{IsBytesSaid, IsElfSaid, IsOne, IsProblemSaid}
 use Rattle.nugwier_commands.proofs.Begun.{other_begun}
 use Rattle.nugwier_commands.proofs.Lifting.{one_of, then_told}
-use Rattle.nugwier_report.specs.Formats.{front}
-use Rattle.nugwier_words.specs.Words.{task_of}
+use Rattle.nugwier_commands.specs.Words.{task_of}
 use Rattle.nugwier_commands.proofs.run.run_slice.Goals as goal
 
 pub returns-else-is_elf : goal.returns-else-is_elf
@@ -12,7 +12,7 @@ returns-else-is_elf g c =
     let heading = c.args.target.heading in
     let path = c.args.target.path.now in
     let bytes = c.args.bytes.now in
-    let fault = c.not_elf.result in
+    let fault = not_elf_text c.not_elf.result.0 in
     let IsSaid = IsBytesSaid task path in
     then_told g.R.Run.one c.tell_problem.result _ _ _ (IsOne heading path (IsElfSaid IsSaid bytes))
     (one_of heading path (IsProblemSaid fault) (IsElfSaid IsSaid bytes)

@@ -1,7 +1,7 @@
 use Rattle.nugwier_commands.specs.Run.{IsBytesSaid, IsOne, IsSaidAt}
 use Rattle.nugwier_commands.proofs.Begun.{source_said}
 use Rattle.nugwier_commands.proofs.Lifting.{one_of, then_tried}
-use Rattle.nugwier_words.specs.Words.{task_of}
+use Rattle.nugwier_commands.specs.Words.{task_of}
 use Rattle.nugwier_commands.proofs.run.run_source.Goals as goal
 
 pub returns-in-Some : goal.returns-in-Some

@@ -1,7 +1,7 @@
 use Rattle.std.proofs.Common.{rules, string_bytes}
 use Rattle.std.proofs.lemmas.List.Sorted.{answers_always, ranks_by}
 use Rattle.std.proofs.lemmas.Cmp.{nat_list_cmp_total}
-use Rattle.nugwier_files.specs.declared.folder.Entry.{Entry}
+use Rattle.elf_libraries.specs.declared.folder.Entry.{Entry}
 use Rattle.nugwier_commands.proofs.Walks.{in_order}
 use Rattle.nugwier_commands.proofs.walk.order.Goals as goal
 

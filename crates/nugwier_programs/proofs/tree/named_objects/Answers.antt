@@ -6,10 +6,10 @@ use Rattle.std.specs.Vec.{vec_items}
 use Rattle.elf_libraries.specs.Cache.{cache_view}
 use Rattle.elf_libraries.specs.Search.{Others, cached_by, folders_view}
 use Rattle.elf_libraries.specs.Tree.{Found, IsLoadOrder, found_view}
-use Rattle.nugwier_files.specs.Folder.{KnownFiles, opened_in}
-use Rattle.nugwier_programs.specs.Configured.{AreListed}
+use Rattle.elf_libraries.specs.Folder.{KnownFiles, opened_in}
+use Rattle.elf_libraries.specs.Configured.{AreListed}
 use Rattle.nugwier_programs.specs.Tree.{AreNamedIn, AreNamedObjects, Order, cache_file, cache_for, cache_in, order_view, others_of, search_view}
-use Rattle.nugwier_programs.specs.Processor.{hwcaps_of, level_for}
+use Rattle.elf_libraries.specs.Processor.{hwcaps_of, level_for}
 use Rattle.nugwier_programs.proofs.Scopes.{borrowed}
 use Rattle.nugwier_programs.proofs.Walk.{all_known, is_some_of, known_as, made_others, same_cached, same_others}
 use Rattle.nugwier_programs.proofs.tree.named_objects.Goals as goal

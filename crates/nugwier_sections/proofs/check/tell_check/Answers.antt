@@ -4,7 +4,7 @@ use Rattle.std.specs.Borrow.{Bor}
 use Rattle.elf_records.specs.Number.{ok_map}
 use Rattle.elf_records.specs.declared.parse.ParseError.{ParseError}
 use Rattle.nugwier_sections.proofs.Told.{checked}
-use Rattle.nugwier_taking.specs.Whole.{file_of}
+use Rattle.nugwier_report.specs.Whole.{file_of}
 use Rattle.nugwier_report.specs.Said.{wrong}
 use Rattle.nugwier_report.specs.declared.problem.Place.{Place}
 use Rattle.nugwier_report.specs.declared.problem.Fault.TheVariants.{Read}

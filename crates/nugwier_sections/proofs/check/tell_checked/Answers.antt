@@ -1,7 +1,5 @@
-use Rattle.std.proofs.Common.{[], ◌∷◌, List, Result, Err, sym, subst}
+use Rattle.std.proofs.Common.{[], ◌∷◌}
 use Rattle.std.proofs.lemmas.Result.{on_ok_weaker}
-use Rattle.elf_check.specs.declared.faults.FileFault.{FileFault}
-use Rattle.elf_records.specs.Number.{ok_map}
 use Rattle.nugwier_sections.proofs.Told.{not_checked}
 use Rattle.nugwier_report.specs.Said.{wrong}
 use Rattle.nugwier_report.specs.declared.problem.Fault.TheVariants.{Read}

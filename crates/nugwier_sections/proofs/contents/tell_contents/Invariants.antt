@@ -1,8 +1,8 @@
 use Rattle.std.proofs.Common.{◌≡◌, drop, map}
 use Rattle.nugwier_sections.specs.Contents.{said_of_contents}
-use Rattle.nugwier_taking.specs.Whole.{file_of}
+use Rattle.nugwier_report.specs.Whole.{file_of}
 use Rattle.nugwier_report.specs.Said.{saying}
-use Rattle.nugwier_words.specs.Words.{wanted_view}
+use Rattle.nugwier_sections.specs.Contents.{wanted_view}
 use Rattle.nugwier_sections.proofs.contents.tell_contents.Given as goal
 
 -- what was told so far, and then what is told of the words that are left, is the whole

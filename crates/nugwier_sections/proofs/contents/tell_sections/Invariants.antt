@@ -1,6 +1,6 @@
 use Rattle.std.proofs.Common.{◌≡◌, drop}
 use Rattle.nugwier_sections.specs.Contents.{sections_said}
-use Rattle.nugwier_taking.specs.Whole.{file_of}
+use Rattle.nugwier_report.specs.Whole.{file_of}
 use Rattle.nugwier_report.specs.Said.{saying}
 use Rattle.nugwier_sections.proofs.contents.tell_sections.Given as goal
 

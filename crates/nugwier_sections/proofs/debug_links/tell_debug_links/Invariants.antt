@@ -1,7 +1,7 @@
 use Rattle.std.proofs.Common.{◌≡◌, drop}
 use Rattle.nugwier_sections.specs.DebugLinks.{links_of_sections, said_of_debug_links}
-use Rattle.nugwier_taking.specs.Headings.{known_names}
-use Rattle.nugwier_taking.specs.Whole.{file_of}
+use Rattle.nugwier_report.specs.Headings.{known_names}
+use Rattle.nugwier_report.specs.Whole.{file_of}
 use Rattle.nugwier_report.specs.Said.{saying}
 use Rattle.nugwier_sections.proofs.debug_links.tell_debug_links.Given as goal
 

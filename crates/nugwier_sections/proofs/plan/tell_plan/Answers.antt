@@ -1,7 +1,7 @@
 use Rattle.std.proofs.lemmas.Result.{on_ok_weaker}
 use Rattle.nugwier_sections.specs.Plan.{mappings_said}
 use Rattle.nugwier_sections.proofs.Told.{mapped, refused}
-use Rattle.nugwier_taking.specs.Whole.{file_of}
+use Rattle.nugwier_report.specs.Whole.{file_of}
 use Rattle.nugwier_sections.proofs.plan.tell_plan.Goals as goal
 
 pub returns-in-Ok : goal.returns-in-Ok

@@ -1,6 +1,6 @@
 use Rattle.std.proofs.Common.{◌≡◌, drop}
 use Rattle.nugwier_sections.specs.Segments.{interpreter_in}
-use Rattle.nugwier_taking.specs.Whole.{file_of}
+use Rattle.nugwier_report.specs.Whole.{file_of}
 use Rattle.nugwier_report.specs.Said.{numbered, saying}
 use Rattle.nugwier_sections.proofs.segments.tell_interpreters.Given as goal
 

@@ -1,8 +1,8 @@
 use Rattle.std.proofs.Common.{◌≡◌, ◌++◌, List, drop, map}
 use Rattle.nugwier_symbols.specs.Addresses.{placed}
-use Rattle.nugwier_taking.specs.Whole.{file_of}
-use Rattle.nugwier_words.specs.Words.{sought}
-use Rattle.nugwier_words.specs.declared.words.AskedAddress.{AskedAddress}
+use Rattle.nugwier_report.specs.Whole.{file_of}
+use Rattle.nugwier_symbols.specs.Addresses.{sought}
+use Rattle.nugwier_symbols.specs.declared.addresses.AskedAddress.{AskedAddress}
 use Rattle.nugwier_symbols.proofs.addresses.placed.Given as goal
 
 -- the addresses so far, and then those that are left, are all

@@ -2,8 +2,8 @@ use Rattle.std.proofs.Common.{◌≡◌, map}
 use Rattle.std.specs.List.{flat_map}
 use Rattle.std.specs.Vec.Iter.{into_iter_items}
 use Rattle.nugwier_symbols.specs.Groups.{groups_said, section_group_said}
-use Rattle.nugwier_taking.specs.Whole.{file_of}
-use Rattle.nugwier_taking.specs.inner.TypedSections.{section_view}
+use Rattle.nugwier_report.specs.Whole.{file_of}
+use Rattle.nugwier_report.specs.inner.TypedSections.{section_view}
 use Rattle.nugwier_report.specs.Labels.{named_by}
 use Rattle.nugwier_report.specs.Said.{saying}
 use Rattle.nugwier_symbols.proofs.groups.tell_groups.Given as goal

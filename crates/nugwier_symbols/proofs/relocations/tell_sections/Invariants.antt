@@ -3,8 +3,8 @@ use Rattle.std.specs.List.{flat_map}
 use Rattle.std.specs.Vec.Iter.{into_iter_items}
 use Rattle.nugwier_symbols.specs.Relocations.{placed_said, section_relocations, sections_relocations}
 use Rattle.nugwier_symbols.specs.inner.Relocations.{around_view}
-use Rattle.nugwier_taking.specs.Whole.{file_of}
-use Rattle.nugwier_taking.specs.inner.TypedSections.{section_view}
+use Rattle.nugwier_report.specs.Whole.{file_of}
+use Rattle.nugwier_report.specs.inner.TypedSections.{section_view}
 use Rattle.nugwier_report.specs.Said.{saying}
 use Rattle.nugwier_symbols.proofs.relocations.tell_sections.Given as goal
 

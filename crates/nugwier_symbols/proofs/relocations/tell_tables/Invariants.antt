@@ -4,7 +4,7 @@ use Rattle.elf_dynamic.specs.dynamic_view.Entries.{entries_in}
 use Rattle.elf_records.specs.Table.{table_view}
 use Rattle.nugwier_symbols.specs.Relocations.{placed_said, table_relocations}
 use Rattle.nugwier_symbols.specs.inner.Relocations.{around_view}
-use Rattle.nugwier_taking.specs.Whole.{file_of}
+use Rattle.nugwier_report.specs.Whole.{file_of}
 use Rattle.nugwier_report.specs.Said.{saying}
 use Rattle.nugwier_report.specs.declared.problem.RelocationTable.{RelocationTable}
 use Rattle.nugwier_symbols.proofs.relocations.tell_tables.Given as goal

@@ -1,8 +1,8 @@
 use Rattle.nugwier_report.specs.declared.problem.Part.TheVariants.{DynamicSymbols}
 use Rattle.nugwier_symbols.proofs.Ordered.{in_table_order}
 use Rattle.nugwier_symbols.proofs.symbols.tell_dynamic_symbols.Goals as goal
-use Rattle.nugwier_taking.specs.Linked.{linked_symbols, linked_versions}
-use Rattle.nugwier_taking.specs.Whole.{file_of}
+use Rattle.nugwier_report.specs.Linked.{linked_symbols, linked_versions}
+use Rattle.nugwier_report.specs.Whole.{file_of}
 
 pub returns : goal.returns
 returns g c =

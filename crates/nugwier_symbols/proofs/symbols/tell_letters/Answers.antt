@@ -1,11 +1,11 @@
 use Rattle.std.proofs.Common.{Bool, subst, sym}
 use Rattle.std.specs.Prelude.{OnOk}
-use Rattle.nugwier_records.specs.Symbols.{by_letter}
+use Rattle.nugwier_symbols.specs.SymbolRows.{by_letter}
 use Rattle.nugwier_report.specs.Said.{IsToldAs}
 use Rattle.nugwier_symbols.proofs.symbols.tell_letters.Goals as goal
 use Rattle.nugwier_symbols.specs.Symbols.{AreLettersSaid}
-use Rattle.nugwier_taking.specs.Headings.{name_bytes}
-use Rattle.nugwier_taking.specs.Whole.{file_of}
+use Rattle.nugwier_report.specs.Headings.{name_bytes}
+use Rattle.nugwier_report.specs.Whole.{file_of}
 
 pub returns-then-options : goal.returns-then-options
 returns-then-options g c =

@@ -6,9 +6,9 @@ use Rattle.std.specs.Prelude.{OnOk}
 use Rattle.elf_records.specs.Symbol.{symbol_reads}
 use Rattle.elf_records.specs.Table.{table_items, table_view}
 use Rattle.elf_records.specs.declared.symbol.Symbol.{Symbol}
-use Rattle.nugwier_records.specs.Symbols.{form_view, symbol_said}
+use Rattle.nugwier_symbols.specs.SymbolRows.{form_view, symbol_said}
 use Rattle.nugwier_report.specs.Said.{Said, numbered, saying}
-use Rattle.nugwier_report.specs.declared.symbol_options.SymbolOrder.{SymbolOrder}
+use Rattle.nugwier_symbols.specs.declared.symbol_options.SymbolOrder.{SymbolOrder}
 use Rattle.nugwier_symbols.proofs.Ordered.{by_key_ordered, numbered_rows}
 use Rattle.nugwier_symbols.proofs.symbols.tell_rows.Goals as goal
 use Rattle.nugwier_symbols.specs.Symbols.{IsOrdered}

@@ -5,7 +5,7 @@ use Rattle.nugwier_report.specs.declared.problem.Fault.TheVariants.{Read}
 use Rattle.nugwier_report.specs.declared.problem.Part.TheVariants.{Symbols}
 use Rattle.nugwier_symbols.proofs.Ordered.{in_table_order}
 use Rattle.nugwier_symbols.proofs.symbols.tell_symbols.Goals as goal
-use Rattle.nugwier_taking.specs.Whole.{file_of}
+use Rattle.nugwier_report.specs.Whole.{file_of}
 
 pub returns : goal.returns
 returns g c =

@@ -6,11 +6,11 @@ use Rattle.elf_parts.specs.gnu_symver.Table.{Versions, versions_view}
 use Rattle.elf_records.specs.Number.{ok_map}
 use Rattle.elf_records.specs.Symbol.{symbol_reads}
 use Rattle.elf_records.specs.Table.{table_items, table_view}
-use Rattle.nugwier_records.specs.Symbols.{form_view}
+use Rattle.nugwier_symbols.specs.SymbolRows.{form_view}
 use Rattle.nugwier_symbols.proofs.Ordered.{versioned_told}
 use Rattle.nugwier_symbols.proofs.symbols.tell_versioned.Goals as goal
 use Rattle.nugwier_symbols.specs.Symbols.{rows_of}
-use Rattle.nugwier_taking.specs.Read.{if_read}
+use Rattle.nugwier_report.specs.Reading.{if_read}
 
 -- that the versions cannot be read, the heading, and the rows
 pub returns : goal.returns

@@ -1,5 +1,5 @@
 use Rattle.std.proofs.Common.{None, Ok, refl, rules}
-use Rattle.elf_libraries.proofs.Opening.{found_by_names}
+use Rattle.elf_libraries.proofs.OpenedWhole.{found_by_names}
 use Rattle.elf_libraries.proofs.tree.LoadedFile.of_stream.Goals as goal
 
 pub returns : goal.returns

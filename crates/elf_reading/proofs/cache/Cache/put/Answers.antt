@@ -14,8 +14,8 @@ invariant_of-self g c =
     let no1 : is_err c.insert.result ≡ true = search rules in
     subst (AreSpread (λ v. v.items)) (sym (from_err _ c.insert.result no1 c.insert.ensures.err)) c.self.invariant
 
-pub take_within-requires : goal.take_within-requires
-take_within-requires g c =
+pub remove_within-requires : goal.remove_within-requires
+remove_within-requires g c =
     let ok : is_err c.insert.result ≡ false = search rules in
     rw (from_ok _ c.insert.result ok c.insert.ensures.entries) (spread_behind (λ v. v.items) c.args.start c.args.bytes c.self.inside.buffers.entries c.self.invariant)
 
@@ -25,12 +25,12 @@ invariant_of-self-2 g c =
     let miss : is_cached (map range_of c.args.self.now) c.args.start (c.args.start + length c.args.bytes.items) ≡ false = rw long at (sym c.holds.ensures ∙ c.if-holds.false) in
     let ok : is_err c.insert.result ≡ false = search rules in
     spread_all (λ v. v.items) c.args.start c.args.bytes c.self.inside.buffers.entries c.insert.new.self.entries _ c.in-Some.end c.self.invariant (rw (← c.self.view_is) at miss)
-    (from_ok _ c.insert.result ok c.insert.ensures.entries) long c.take_within.ensures
+    (from_ok _ c.insert.result ok c.insert.ensures.entries) long c.remove_within.ensures
 
 pub returns-clause-put : goal.returns-clause-put
 returns-clause-put g c =
     let long : c.in-Some.end ≡ c.args.start + length c.args.bytes.items = omega (arith, c.in-Some.ensures, c.len.ensures) in
     let miss : is_cached (map range_of c.args.self.now) c.args.start (c.args.start + length c.args.bytes.items) ≡ false = rw long at (sym c.holds.ensures ∙ c.if-holds.false) in
     let ok : is_err c.insert.result ≡ false = search rules in
-    rw (← c.self.view_is, c.take_within.ensures, from_ok _ c.insert.result ok c.insert.ensures.entries, long)
+    rw (← c.self.view_is, c.remove_within.ensures, from_ok _ c.insert.result ok c.insert.ensures.entries, long)
     (is_put (λ v. v.items) c.args.start c.args.bytes c.self.inside.buffers.entries (rw (← c.self.view_is) at miss))

@@ -3,12 +3,12 @@ use Rattle.std.proofs.lemmas.Result.{on_ok_weaker}
 use Rattle.nugwier_commands.specs.Run.{IsFileSaid}
 use Rattle.nugwier_commands.specs.inner.Loading.{IsSaidAfter, unread_said}
 use Rattle.nugwier_commands.proofs.Lifting.{named_same, told_under}
-use Rattle.nugwier_listing.specs.Job.{IsSaidOf}
-use Rattle.nugwier_listing.specs.Labels.{names_told}
+use Rattle.nugwier_commands.specs.Job.{IsSaidOf}
+use Rattle.nugwier_commands.specs.Labels.{names_told}
 use Rattle.nugwier_report.specs.Labels.{named_by}
 use Rattle.nugwier_report.specs.Said.{Said}
-use Rattle.nugwier_taking.specs.Whole.{file_of}
-use Rattle.nugwier_words.specs.Words.{task_of}
+use Rattle.nugwier_report.specs.Whole.{file_of}
+use Rattle.nugwier_commands.specs.Words.{task_of}
 use Rattle.nugwier_commands.proofs.target.Target.tell_file.Goals as goal
 
 pub returns : goal.returns

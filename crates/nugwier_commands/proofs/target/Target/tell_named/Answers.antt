@@ -4,7 +4,7 @@ use Rattle.nugwier_commands.specs.Run.{search_of}
 use Rattle.nugwier_commands.specs.inner.Loading.{IsNamedProgramSaid}
 use Rattle.nugwier_commands.proofs.Lifting.{told_under}
 use Rattle.nugwier_report.specs.Labels.{no_sections}
-use Rattle.nugwier_words.specs.Words.{task_of}
+use Rattle.nugwier_commands.specs.Words.{task_of}
 use Rattle.nugwier_commands.proofs.target.Target.tell_named.Goals as goal
 
 pub returns : goal.returns

@@ -2,7 +2,7 @@ use Rattle.std.proofs.Common.{refl}
 use Rattle.nugwier_commands.specs.Run.{IsProgramSaid}
 use Rattle.nugwier_commands.proofs.Lifting.{told_under}
 use Rattle.nugwier_report.specs.Labels.{no_sections}
-use Rattle.nugwier_words.specs.Words.{task_of}
+use Rattle.nugwier_commands.specs.Words.{task_of}
 use Rattle.nugwier_commands.proofs.target.Target.tell_program.Goals as goal
 
 pub returns : goal.returns

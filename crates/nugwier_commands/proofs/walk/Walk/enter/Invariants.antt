@@ -1,6 +1,6 @@
 use Rattle.std.proofs.Common.{◌≡◌, ◌++◌, length, map}
 use Rattle.nugwier_commands.specs.Walk.{place_below, places_of}
-use Rattle.nugwier_files.specs.Folder.{place_of}
+use Rattle.elf_libraries.specs.Folder.{place_of}
 use Rattle.nugwier_commands.proofs.walk.Walk.enter.Given as goal
 
 -- the names that are left come before the places

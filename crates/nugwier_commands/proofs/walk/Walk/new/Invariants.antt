@@ -1,6 +1,6 @@
 use Rattle.std.proofs.Common.{◌≡◌, map, take}
 use Rattle.nugwier_commands.specs.Walk.{named}
-use Rattle.nugwier_files.specs.Folder.{place_of}
+use Rattle.elf_libraries.specs.Folder.{place_of}
 use Rattle.nugwier_commands.proofs.walk.Walk.new.Given as goal
 
 -- the paths so far

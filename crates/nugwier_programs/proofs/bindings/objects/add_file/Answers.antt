@@ -1,8 +1,8 @@
-use Rattle.std.proofs.Common.{[], ◌∷◌, ap, append-nil, ◌∙◌, map, refl, rules, sym}
+use Rattle.std.proofs.Common.{ap, append-nil, ◌∙◌, map, refl, rules, sym}
 use Rattle.nugwier_programs.specs.Bindings.{Searched, Unsearchable}
-use Rattle.nugwier_report.specs.Said.{saying, whole, wrong}
-use Rattle.nugwier_report.specs.declared.problem.Fault.{Fault}
-use Rattle.nugwier_report.specs.declared.problem.Part.TheVariants.{File}
+use Rattle.nugwier_programs.specs.Faults.{warned}
+use Rattle.nugwier_programs.specs.declared.faults.Fault.{Fault}
+use Rattle.nugwier_report.specs.Said.{saying}
 use Rattle.nugwier_programs.specs.inner.Scope.{search_fault, searched_file}
 use Rattle.nugwier_programs.proofs.Scopes.{one_found}
 use Rattle.nugwier_programs.proofs.bindings.objects.add_file.Goals as goal
@@ -19,6 +19,6 @@ pub returns-in_ok-problem-in-Err : goal.returns-in_ok-problem-in-Err
 returns-in_ok-problem-in-Err g c = (
   Unsearchable (search_fault c.args.file.now.path.now c.in-Err.fault),
   c.in-Err.ensures,
-  c.in_ok-problem-in-Err.ensures ∙ ap (λ (f : Fault). saying g.T.Tell.one c.args.tell.now (wrong (whole File) f ∷ [])) c.problem_of.ensures,
+  c.in_ok-problem-in-Err.ensures ∙ ap (λ (f : Fault). saying g.T.Tell.one c.args.tell.now (warned f)) c.problem_of.ensures,
   sym (append-nil (map searched_file c.args.found.now.items)),
 )

@@ -1,9 +1,9 @@
-use Rattle.std.proofs.Common.{[], ◌∷◌, ◌∙◌, ℕ, List, Option, Some, ap, refl, subst}
+use Rattle.std.proofs.Common.{◌∙◌, ℕ, List, Option, Some, ap, refl, subst}
 use Rattle.std.proofs.lemmas.Option.{IfSome_then}
 use Rattle.elf_linking.specs.declared.resolve.ObjectFault.TheVariants.{Read}
-use Rattle.nugwier_report.specs.Said.{saying, whole, wrong}
-use Rattle.nugwier_report.specs.declared.problem.Fault.TheVariants.{Object, Unread}
-use Rattle.nugwier_report.specs.declared.problem.Part.TheVariants.{File}
+use Rattle.nugwier_programs.specs.Faults.{warned}
+use Rattle.nugwier_report.specs.Said.{saying}
+use Rattle.nugwier_programs.specs.declared.faults.Fault.TheVariants.{Object, Unread}
 use Rattle.nugwier_programs.specs.Bindings.{Gone, Loaded, Refused}
 use Rattle.nugwier_programs.specs.inner.Opening.{IsLoadedFrom}
 use Rattle.nugwier_programs.specs.inner.Scope.{open_at}
@@ -27,7 +27,7 @@ returns-in_ok-problem-in-Some-Err g c =
       Refused path e,
       of_file (g.F.Files.known c.args.files.now) c.args.object.now.file c.in-Some.loaded _ c.in-Some.is (c.as_slice-path.ensures.value, content),
       refl,
-      c.in_ok-problem-in-Some-Err.ensures ∙ ap (λ (p : List ℕ). saying g.T.Tell.one c.args.tell.now (wrong (whole File) (Object p (Read e)) ∷ [])) c.new.ensures,
+      c.in_ok-problem-in-Some-Err.ensures ∙ ap (λ (p : List ℕ). saying g.T.Tell.one c.args.tell.now (warned (Object p (Read e)))) c.new.ensures,
     )
 
 pub returns-in_ok-problem-in-None : goal.returns-in_ok-problem-in-None
@@ -37,5 +37,5 @@ returns-in_ok-problem-in-None g c =
       Gone path,
       of_file (g.F.Files.known c.args.files.now) c.args.object.now.file c.in-Some.loaded _ c.in-Some.is (c.as_slice-path.ensures.value, content),
       refl,
-      c.in_ok-problem-in-None.ensures ∙ ap (λ (p : List ℕ). saying g.T.Tell.one c.args.tell.now (wrong (whole File) (Unread p) ∷ [])) c.new-in-None.ensures,
+      c.in_ok-problem-in-None.ensures ∙ ap (λ (p : List ℕ). saying g.T.Tell.one c.args.tell.now (warned (Unread p))) c.new-in-None.ensures,
     )

@@ -1,6 +1,6 @@
 use Rattle.std.proofs.Common.{map}
 use Rattle.std.specs.Option.{option_map}
-use Rattle.nugwier_records.specs.Bindings.{bound_view}
+use Rattle.nugwier_programs.specs.BindingRows.{bound_view}
 use Rattle.nugwier_programs.specs.inner.Scope.{indexed_view, scope_paths}
 use Rattle.nugwier_programs.proofs.Walk.{one_more}
 use Rattle.nugwier_programs.proofs.bindings.rows.tell_bindings.Goals as goal

@@ -38,24 +38,24 @@ use Rattle.nugwier_report.proofs.log.Log.picked.Statement as stated
 use Rattle.nugwier_report.proofs.log.Log.picked.Code as code
 use Rattle.nugwier_report.specs.contracts.log.Note as Note
 
-module _ (W A : RattleType) where
+module _ (W A D : RattleType) where
   abbrev args : Args
-  args = layouts (a_type ∷ a_type ∷ []) (W, (A, tt))
+  args = layouts (a_type ∷ a_type ∷ a_type ∷ []) (W, (A, (D, tt)))
 
   abbrev function : Fn
   function = inst_fn args code.function
 
   abbrev ended : Ended
-  ended = F.ended W A
+  ended = F.ended W A D
 
   abbrev stayed : Stays ended.signature.params ended.kept
-  stayed = (stay_dropped _ yes, (stay_dropped _ yes, tt))
+  stayed = (stay_dropped _ yes, (stay_dropped _ yes, (stay_dropped _ yes, tt)))
 
   module _ {M : Type 1} {𝓤 : Ura M} (𝓛 : Logic 𝓤) (at_mem : Memory → SProp 𝓤) (run : Routine → Fun 𝓤) where
     open 𝓛 use {H}
 
     abbrev held : Clauses 𝓤 ended
-    held = F.clauses W A 𝓛 at_mem run
+    held = F.clauses W A D 𝓛 at_mem run
 
     module _ (C : Calls 𝓤 H) (Λ : Loops 𝓤 H) (z : (walk_of 𝓛 ended stayed held).Ghost) where
       abbrev Post : Val → SProp 𝓤
@@ -72,31 +72,36 @@ module _ (W A : RattleType) where
           record { of = record {}; start = z.1.start; said = z.1.said } in
           qed 𝓛 ((raw toks ⊛ ‵ (owns (types_at ended.signature.params z.0.0) a vss)) ∷ raw ((held z.0.0 a).requires z.1) ∷ []) ∵
           keep ! (0 ∷ []) $ split ! $ move ! (1 ∷ []) $
-          fsplit ! $ fsplit ! $ feq_l ! (λ is₀. drop ! $ fsplit ! $ fsplit ! $ feq_l ! (λ is₁. drop ! $ drop ! $
+          fsplit ! $ fsplit ! $ feq_l ! (λ is₀. drop ! $ fsplit ! $ fsplit ! $ feq_l ! (λ is₁. drop ! $ fsplit ! $ fsplit ! $ feq_l ! (λ is₂. drop ! $ drop ! $
           let p = vptr a.0.ref_ptr.0 a.0.ref_ptr.1 in
           let q = vptr a.1.0.ref_ptr.0 a.1.0.ref_ptr.1 in
-          regoal ! (λ (us : List Val). prop (WpFn 𝓤 H C Λ function (us ++ (vss.1.0 ++ [])) Post)) is₀ refl $
-          regoal ! (λ (us : List Val). prop (WpFn 𝓤 H C Λ function ((p ∷ []) ++ (us ++ [])) Post)) is₁ refl $
-          enter ! C Λ function (p ∷ q ∷ []) Post $ alloc_all ! (λ l. pass_all ! refl ((tt, tt), ((tt, tt), tt)) $
+          let r = vptr a.1.1.0.ref_ptr.0 a.1.1.0.ref_ptr.1 in
+          regoal ! (λ (us : List Val). prop (WpFn 𝓤 H C Λ function (us ++ (vss.1.0 ++ (vss.1.1.0 ++ []))) Post)) is₀ refl $
+          regoal ! (λ (us : List Val). prop (WpFn 𝓤 H C Λ function ((p ∷ []) ++ (us ++ (vss.1.1.0 ++ []))) Post)) is₁ refl $
+          regoal ! (λ (us : List Val). prop (WpFn 𝓤 H C Λ function ((p ∷ []) ++ ((q ∷ []) ++ (us ++ []))) Post)) is₂ refl $
+          enter ! C Λ function (p ∷ q ∷ r ∷ []) Post $ alloc_all ! (λ l. pass_all ! refl ((tt, tt), ((tt, tt), ((tt, tt), tt))) $
           sets ! (agg ! (no_more !)) refl (tt, tt) $
           sets ! (agg ! (and_then ! (get ! refl) (no_more !))) refl (tt, (tt, tt)) $
           nothing ! $ owned ! (Mark.the_row (param 0 W)) (Is (Mark.the_row (param 0 W))) (makes (Mark.the_type (param 0 W)) tt 𝓛) (record {}) (none ∷ []) (tt, (refl, tt)) $
           one_made ! (Mark.the_row (param 0 W)) (record {}) none $ fjoin ! $
           returns ! (look_at ! 0 refl) $ free_all ! refl $
-          suffices ! _ (ends_at 𝓛 ended stayed held z (one none) made (tt, (tt, tt)) (tt, (tt, tt))) $ says ! (refl, refl) $
-          nothing ! $ nothing ! $ fjoin ! $ nothing ! $ fjoin ! $ move ! (2 ∷ 0 ∷ 1 ∷ []) $ done !)))
+          suffices ! _ (ends_at 𝓛 ended stayed held z (one none) made (tt, (tt, (tt, tt))) (tt, (tt, (tt, tt)))) $ says ! (refl, refl) $
+          nothing ! $ nothing ! $ fjoin ! $ nothing ! $ fjoin ! $ nothing ! $ fjoin ! $ move ! (2 ∷ 0 ∷ 1 ∷ []) $ done !))))
 
     meets : (𝓣 : Tables 𝓤 H) → Meets 𝓛 ended.signature (WpFn 𝓤 H 𝓣.C 𝓣.Λ function) (closing 𝓛 ended held)
     meets 𝓣 =
         walk_Meets 𝓛 ended stayed (
-          Goes-dropped 𝓛 5 (RefOf (0 ∷ []) tt (plain (λ _. param 1 A)) (λ _. tt)) yes (λ κs x f. refl),
-          (Goes-dropped 𝓛 5 (RefOf (1 ∷ []) tt (plain (λ κs. Note.the_row (named_lft 5 2 tt κs))) (λ _. tt)) yes (λ κs x f. refl), tt),
+          Goes-dropped 𝓛 7 (RefOf (0 ∷ []) tt (plain (λ _. param 1 A)) (λ _. tt)) yes (λ κs x f. refl),
+          (
+            Goes-dropped 𝓛 7 (RefOf (1 ∷ []) tt (plain (λ _. param 2 D)) (λ _. tt)) yes (λ κs x f. refl),
+            (Goes-dropped 𝓛 7 (RefOf (2 ∷ []) tt (plain (λ κs. Note.the_row (named_lft 7 3 tt κs))) (λ _. tt)) yes (λ κs x f. refl), tt),
+          ),
         ) held
         (WpFn 𝓤 H 𝓣.C 𝓣.Λ function) (WpFn-mono 𝓤 H 𝓛.laws 𝓣 function) (walks 𝓣.C 𝓣.Λ)
 
 pub picked_spec : {M : Type 1} → stated.statement M
 unfolding tables_of
-picked_spec 𝓤 𝓛 𝓜 𝓡 wired W A LW LA =
+picked_spec 𝓤 𝓛 𝓜 𝓡 wired W A D LW LA LD =
     let 𝓣 : Tables 𝓤 𝓛.H = tables_of 𝓤 𝓛.H 𝓜 (tables 𝓤 𝓛.H 𝓜 𝓡 𝓡.env) in
-    entered 𝓤 𝓛.H (triple_of 𝓛 (ended W A).signature (closing 𝓛 (ended W A) (held W A 𝓛 𝓜.mem 𝓡.returns))) 𝓣.C 𝓣.Λ (#self (args W A)) (function W A)
-    (code.unfolded 𝓤 𝓛.H 𝓜 𝓡 wired (W, (A, tt))) (meets W A 𝓛 𝓜.mem 𝓡.returns 𝓣)
+    entered 𝓤 𝓛.H (triple_of 𝓛 (ended W A D).signature (closing 𝓛 (ended W A D) (held W A D 𝓛 𝓜.mem 𝓡.returns))) 𝓣.C 𝓣.Λ (#self (args W A D)) (function W A D)
+    (code.unfolded 𝓤 𝓛.H 𝓜 𝓡 wired (W, (A, (D, tt)))) (meets W A D 𝓛 𝓜.mem 𝓡.returns 𝓣)

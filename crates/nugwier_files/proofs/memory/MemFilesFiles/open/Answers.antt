@@ -1,5 +1,0 @@
-use Rattle.std.proofs.Common.{Some, ap, rules}
-use Rattle.nugwier_files.proofs.memory.MemFilesFiles.open.Goals as goal
-
-pub returns : goal.returns
-returns c = (c.in_ok-bytes.bytes.now, search rules, ap Some c.new.ensures.bytes)

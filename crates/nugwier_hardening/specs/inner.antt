@@ -1,2 +1,0 @@
--- how a file with known dynamic entries is hardened
-pub mod Hardening

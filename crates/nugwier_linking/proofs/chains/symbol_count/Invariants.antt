@@ -1,6 +1,0 @@
-use Rattle.std.proofs.Common.{◌≡◌, ◌+◌, drop, sum}
-use Rattle.nugwier_linking.proofs.chains.symbol_count.Given as goal
-
--- the symbols so far, and then those of the chains that are left, are all
-abbrev pub invariant-loop-length : goal.invariant-loop-length
-invariant-loop-length l = l.count + sum (drop l.length-index l.lengths) ≡ sum l.lengths

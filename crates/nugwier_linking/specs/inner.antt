@@ -1,4 +1,0 @@
--- the symbols that lie in chains
-pub mod Chains
--- the versions of a file, and the count of their auxiliary entries
-pub mod VersionLists

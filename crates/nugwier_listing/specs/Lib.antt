@@ -1,3 +1,0 @@
-pub mod Job
--- the names that problems are told with
-pub mod Labels

@@ -1,7 +1,0 @@
-use Rattle.nugwier_programs.proofs.Configuring.{in_order}
-use Rattle.nugwier_programs.proofs.configured.order.Goals as goal
-
-pub returns : goal.returns
-returns c =
-    let ensures = c.sort_unstable.ensures in
-    in_order c.args.names.now c.sort_unstable.new.self ensures.permutation ensures.sorted

@@ -1,4 +1,0 @@
-pub mod ShownVersions
-pub mod Parts
-pub mod FaultsSaid
-pub mod Strings

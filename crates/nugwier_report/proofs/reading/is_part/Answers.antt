@@ -1,0 +1,12 @@
+use Rattle.std.specs.Prelude.{true}
+use Rattle.nugwier_report.specs.Whole.{file_of}
+use Rattle.nugwier_report.proofs.reading.is_part.Goals as goal
+
+pub returns : goal.returns
+returns g c =
+    let file = c.args.file.now in
+    let part = c.is_part_of_whole.ensures in
+    record {
+      part = part;
+      answers = c.part_answers_as_whole.ensures.part (file_of (g.R.Headers.file file) (g.R.ListedFile.bytes file)) (g.R.Reader.ranges file) (λ _. true) part;
+    }

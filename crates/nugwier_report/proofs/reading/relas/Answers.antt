@@ -1,0 +1,6 @@
+use Rattle.elf.specs.Readers.{SectionDataAsRelas}
+use Rattle.nugwier_report.proofs.Follows.{read_whole}
+use Rattle.nugwier_report.proofs.reading.relas.Goals as goal
+
+pub returns : goal.returns
+returns g c = read_whole _ _ _ _ _ c.section_data_as_relas.ensures.value c.unless_missing.ensures (c.is_part.ensures.answers (SectionDataAsRelas c.args.shdr.now))

@@ -1,6 +1,0 @@
-use Rattle.std.proofs.Common.{sym, ◌∙◌}
-use Rattle.nugwier_taking.proofs.Numbers.{number_parsed}
-use Rattle.nugwier_taking.proofs.named.number_in.Goals as goal
-
-pub returns : goal.returns
-returns c = c.ok.ensures.value ∙ sym (number_parsed c.args.word.now c.parse.result c.parse.ensures.value.0)

@@ -1,6 +1,0 @@
-use Rattle.elf.specs.Readers.{SymbolTable}
-use Rattle.nugwier_taking.proofs.Follows.{read_whole}
-use Rattle.nugwier_taking.proofs.taking.plain_symbols.Goals as goal
-
-pub returns : goal.returns
-returns g c = read_whole _ _ _ _ _ c.symbol_table.ensures.value c.unless_missing.ensures (c.is_part.ensures.answers SymbolTable)

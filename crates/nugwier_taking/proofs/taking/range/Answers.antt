@@ -1,5 +1,0 @@
-use Rattle.nugwier_taking.proofs.Follows.{read_whole}
-use Rattle.nugwier_taking.proofs.taking.range.Goals as goal
-
-pub returns : goal.returns
-returns g c = read_whole _ _ _ _ _ c.range.ensures.value c.unless_missing.ensures (c.is_part.ensures.part c.args.start c.args.size)

@@ -1,4 +1,0 @@
--- what was found through the segments
-pub mod Linked
--- the sections of some types that were taken
-pub mod TypedSections

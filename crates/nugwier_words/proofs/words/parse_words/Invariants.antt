@@ -1,8 +1,0 @@
-use Rattle.std.proofs.Common.{◌≡◌, drop}
-use Rattle.nugwier_words.specs.Words.{parsed, parsed_with, so_far}
-use Rattle.nugwier_words.proofs.words.parse_words.Given as goal
-
--- the options so far, and then the words that are left, ask for what all do
-abbrev pub invariant-loop-place : goal.invariant-loop-place
-invariant-loop-place l =
-    parsed_with (so_far l.asked) (drop l.place l.words) ≡ parsed l.is_colored l.words
