@@ -5,3 +5,4 @@ pub mod Calls
 pub mod stream
 pub mod Positions
 pub mod Partly
+pub mod Held

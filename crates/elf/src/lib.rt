@@ -21,5 +21,5 @@ pub mod walk;
 pub use elf_bytes::{CommonElfData, ElfBytes};
 pub use elf_reading::source::{FileSource, MemSource, StreamSource};
 pub use elf_stream::{Closed, ElfStream};
-pub use loaded_ranges::{LoadedRange, LoadedRanges, loaded_part};
+pub use loaded_ranges::{LoadedParts, LoadedRange, LoadedRanges, loaded_part};
 pub use read_error::ReadError;

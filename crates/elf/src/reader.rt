@@ -356,7 +356,7 @@ pub fn symbol_table<'f, E: EndianParse, R: Reader<E>>(
     first_symbols(file, abi::SHT_SYMTAB)
 }
 
-/// Returns the symbols for dynamic linking, and their strings.
+/// Returns the dynamic symbols, and their strings.
 pub fn dynamic_symbol_table<'f, E: EndianParse, R: Reader<E>>(
     file: &'f R,
 ) -> Result<Option<(SymbolTable<'f, E>, StringTable<'f>)>, ReadError>

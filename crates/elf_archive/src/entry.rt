@@ -11,7 +11,7 @@ use crate::archive::ArchiveError;
 use crate::fields::{decimal_in, long_name, place_in, trimmed, without_slash};
 
 /// What a header with its content is.
-#[derive(Debug, Clone, Copy)]
+#[derive(Clone, Copy)]
 pub(crate) enum Entry<'a> {
     /// An index of symbols.
     Index,

@@ -17,6 +17,7 @@ use Rattle.elf_records.specs.declared.section.SectionHeader.{SectionHeader}
 use Rattle.elf_parts.specs.GnuFind.{gnu_section}
 use Rattle.elf_parts.specs.SysvFind.{sysv_section}
 use Rattle.elf_reading.specs.Cache.{IsOf, is_cached, range_of}
+use Rattle.elf.proofs.Held.{loaded_follows}
 use Rattle.elf.proofs.Partly.{follows_bind, follows_found, follows_if, follows_map, follows_parsed, linked_follows, nothing_missing, part_follows, section_follows}
 use Rattle.elf.specs.Answers.{dynamic, first_symbols, section_dynamic, segment_data, segment_dynamic, symbols_in, symbols_of, with_linked}
 use Rattle.elf.specs.Common.{CommonData, CommonPart, DynamicEntries, DynamicSymbols, GnuHash, Symbols, SysvHash}
@@ -36,12 +37,11 @@ use Rattle.elf_linking.specs.declared.needed.NamesError.TheVariants.{Missing}
 use Rattle.elf_dynamic.specs.dynamic_view.Entries.{entries_in}
 use Rattle.elf_linking.specs.declared.needed.NamesError.{NamesError}
 use Rattle.elf_tools.proofs.BuildIds.{id_follows}
-use Rattle.elf_c.proofs.Held.{loaded_follows}
 use Rattle.elf_c.specs.Data.{notes_with}
 use Rattle.elf_c.specs.File.{IsWhole, file_of_c, file_over}
 use Rattle.elf_c.specs.Follows.{AreFollowed, AreNamesAnswered, IsAnswered}
-use Rattle.elf.specs.LoadedRanges.{part_of}
-use Rattle.elf_c.specs.Loaded.{is_missing, loaded_of_c, parts_of_c, ranges_of_c}
+use Rattle.elf.specs.LoadedRanges.{is_missing, part_of}
+use Rattle.elf_c.specs.Loaded.{loaded_of_c, parts_of_c, ranges_of_c}
 use Rattle.elf_c.specs.Status.{names_status, read_status, status_of}
 use Rattle.elf_c.specs.Symbols.{symbols_type}
 use Rattle.elf.specs.declared.loaded_ranges.LoadedRange.{LoadedRange}

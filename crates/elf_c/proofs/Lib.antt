@@ -10,7 +10,6 @@ pub mod Writing
 pub mod Templates
 pub mod Checked
 pub mod Chosen
-pub mod Held
 pub mod Moved
 pub mod Opened
 pub mod Follows

@@ -21,16 +21,15 @@ use Rattle.elf_reading.specs.Cache.{IsOf}
 use Rattle.elf_reading.specs.Opening.{FileView, first_section, header_at_front, section_table, segment_table, table_bytes}
 use Rattle.elf_reading.specs.Tables.{count_word, declared_count, declared_sections, declared_segments, declared_table}
 use Rattle.elf_reading.specs.declared.tables.DeclaredTable.{DeclaredTable}
+use Rattle.elf.proofs.Held.{loaded_follows}
 use Rattle.elf.proofs.Partly.{follows_bind, follows_if, follows_map}
+use Rattle.elf.specs.LoadedRanges.{is_missing, part_of, parts_in, ranges_in}
 use Rattle.elf.specs.ObjectFile.{err_map}
 use Rattle.elf.specs.Parts.{Follows, Ranges}
 use Rattle.elf.specs.declared.read_error.ReadError.{ReadError}
 use Rattle.elf.specs.declared.read_error.ReadError.TheVariants.{Parse, NotLoaded}
-use Rattle.elf_c.proofs.Held.{loaded_follows}
 use Rattle.elf_c.proofs.Moved.{is_wide, part_at, record_moved}
 use Rattle.elf_c.specs.File.{MissingAreEmpty, file_view, opened_in}
-use Rattle.elf.specs.LoadedRanges.{part_of}
-use Rattle.elf_c.specs.Loaded.{is_missing, parts_in, ranges_in}
 use Rattle.elf_c.specs.Opening.{IsOpened, IsOpenedAs}
 use Rattle.elf_c.specs.Status.{done, unread}
 use Rattle.elf_c.specs.inner.Steps.{count_by, first_by, header_by, moved, opened_by, records_by, table_by}

@@ -1,5 +1,5 @@
 -- Notes as C sees them.
-use Rattle.std.specs.Prelude.{◌≡◌, ℕ, zero, suc, ◌<◌, slice_get, List, [], Option, Some, None, Result, Ok, Err}
+use Rattle.std.specs.Prelude.{◌≡◌, ℕ, zero, suc, List, [], Result, Ok, Err}
 use Rattle.elf_abi.specs.Values.{nt_gnu_abi_tag, nt_gnu_build_id}
 use Rattle.elf_parts.specs.Note.{AbiTag, BuildId, NoteContent, Other, note_at}
 use Rattle.elf_parts.specs.declared.note.NoteGnuAbiTag.{NoteGnuAbiTag}
@@ -47,13 +47,10 @@ abbrev pub note_after : NugwierNotes → ℕ → ℕ → Result ℕ ParseError
 note_after notes zero o = Ok o
 note_after notes (suc n) o = note_after notes n o >>= next_note notes
 
--- a place that shows the note that is read
-abbrev pub IsShown : Result (NoteContent × ℕ) ParseError → Option NugwierNote → Type 0
-IsShown (Ok found) (Some place) = IsNote place found.0
-IsShown (Ok found) None = ⊥
-IsShown (Err e) place = ⊥
+-- note i of those that begin at o, with the offset of the next one
+abbrev pub note_from : NugwierNotes → ℕ → ℕ → Result (NoteContent × ℕ) ParseError
+note_from notes o i = note_after notes i o >>= note_of_c notes
 
--- the first n places show the notes that begin at o and after
-abbrev pub AreNotes : NugwierNotes → ℕ → ℕ → List NugwierNote → Type 0
-AreNotes notes o n places =
-    (k : ℕ) → k < n → IsShown (note_after notes k o >>= note_of_c notes) (slice_get places k)
+-- a place shows a note
+abbrev pub IsShown : NoteContent × ℕ → NugwierNote → Type 0
+IsShown found place = IsNote place found.0

@@ -1,8 +1,8 @@
 -- A file that is opened as far as it is loaded.
 use Rattle.std.specs.Prelude.{◌≡◌, ◌⊎◌, ℕ, IfOk, IsTrue, List, [], length}
+use Rattle.elf.specs.LoadedRanges.{is_missing, parts_in}
 use Rattle.elf.specs.declared.read_error.ReadError.TheVariants.{NotLoaded}
 use Rattle.elf_c.specs.File.{MissingAreEmpty, opened_in, view_over}
-use Rattle.elf_c.specs.Loaded.{is_missing, parts_in}
 use Rattle.elf_c.specs.Status.{IsWritten, status_of, unread}
 use Rattle.elf_c.specs.declared.file.NugwierFile.{NugwierFile}
 use Rattle.elf.specs.declared.loaded_ranges.LoadedRange.{LoadedRange}

@@ -5,12 +5,13 @@ ghost use Rattle.std.specs.Option.{option_map};
 ghost use Rattle.elf_records.specs.Endian.{any_is_little};
 ghost use Rattle.elf_reading.specs.Cache.{IsOf};
 ghost use Rattle.elf.specs.Answers.{first_symbols};
+ghost use Rattle.elf.specs.LoadedRanges.{is_missing};
 ghost use Rattle.elf_check.specs.Sound.{SoundFile};
 ghost use Rattle.elf_check.specs.Whole.{whole_symbols, whole_view};
 ghost use Rattle.elf_c.specs.Check.{AreSectionsRead, AreSymbolsRead};
 ghost use Rattle.elf_c.specs.File.{IsWhole, file_of_c, file_over};
 ghost use Rattle.elf_c.specs.Follows.{AreFollowed};
-ghost use Rattle.elf_c.specs.Loaded.{is_missing, loaded_of_c, parts_of_c, ranges_of_c};
+ghost use Rattle.elf_c.specs.Loaded.{loaded_of_c, parts_of_c, ranges_of_c};
 ghost use Rattle.elf_c.specs.Symbols.{symbols_type};
 
 use crate::file::{NugwierFile, file_in};

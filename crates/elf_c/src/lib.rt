@@ -14,7 +14,6 @@ pub mod file;
 pub mod find;
 pub mod hash_tables;
 pub mod laws;
-pub mod loaded;
 pub mod named;
 pub mod names;
 pub mod notes;

@@ -1,10 +1,11 @@
 //! Symbols with their names, many at once.
-ghost use Rattle.std.specs.Prelude.{◌≡◌, ◌+◌, ◌<◌, ◌≤◌, ◌^◌, ◌⊎◌, IsErr, drop, length};
+ghost use Rattle.std.specs.Prelude.{◌≡◌, ◌≤◌, length};
 ghost use Rattle.elf_parts.specs.Hash.{named_symbol};
 ghost use Rattle.elf_records.specs.Number.{ok_map};
 ghost use Rattle.elf_records.specs.StringTable.{strings_view};
 ghost use Rattle.elf_records.specs.Table.{table_in, table_view};
-ghost use Rattle.elf_c.specs.Named.{AreNamed, named_shown, named_view};
+ghost use Rattle.elf_c.specs.Filled.{AreFilled, AreHeld, AreRead};
+ghost use Rattle.elf_c.specs.Named.{IsNamed, named_shown, named_view};
 ghost use Rattle.elf_c.specs.Tables.{table_of_c};
 
 use crate::records::NugwierSymbol;
@@ -44,6 +45,7 @@ fn named<'data>(
 
 // Fills places with the symbols of a table starting at `first` and their names, as far as each symbol can be read from
 // its own bytes. It may stop early. Inlined, so the compiler knows the byte order and the size of a symbol.
+#[tactic(auto, using(crate::proofs::Filling::none_read))]
 #[inline(always)]
 fn fill_quickly<'data, E: EndianParse>(
     endian: E,
@@ -53,10 +55,8 @@ fn fill_quickly<'data, E: EndianParse>(
     first: usize,
     places: &mut [NugwierNamedSymbol<'data>],
 ) -> usize
-    ensures count { result ≤ length places.new }
-    ensures read { AreNamed (table_in (E.little endian) class bytes.now) (strings_view strings.now) first result
-        places.new }
-    ensures rest { drop result places.new ≡ drop result places.old }
+    ensures { AreRead IsNamed (named_symbol (table_in (E.little endian) class bytes.now) (strings_view strings.now))
+        first result places.old places.new }
 {
     let size = Symbol::size_for(class);
     let Some(mut left) = bytes_from(bytes, first, size) else {
@@ -93,36 +93,15 @@ fn fill_front<'data>(
     first: usize,
     places: &mut [NugwierNamedSymbol<'data>],
 ) -> usize
-    ensures count { result ≤ length places.new }
-    ensures read { AreNamed (table_of_c table.now) (strings_view strings.now) first result places.new }
-    ensures rest { drop result places.new ≡ drop result places.old }
+    ensures { AreRead IsNamed (named_symbol (table_of_c table.now) (strings_view strings.now)) first result
+        places.old places.new }
 {
+    let bytes = table.bytes;
     match (table.little, table.is_64) {
-        (true, true) => fill_quickly(
-            LittleEndian,
-            Class::ELF64,
-            table.bytes,
-            strings,
-            first,
-            places,
-        ),
-        (true, false) => fill_quickly(
-            LittleEndian,
-            Class::ELF32,
-            table.bytes,
-            strings,
-            first,
-            places,
-        ),
-        (false, true) => fill_quickly(BigEndian, Class::ELF64, table.bytes, strings, first, places),
-        (false, false) => fill_quickly(
-            BigEndian,
-            Class::ELF32,
-            table.bytes,
-            strings,
-            first,
-            places,
-        ),
+        (true, true) => fill_quickly(LittleEndian, Class::ELF64, bytes, strings, first, places),
+        (true, false) => fill_quickly(LittleEndian, Class::ELF32, bytes, strings, first, places),
+        (false, true) => fill_quickly(BigEndian, Class::ELF64, bytes, strings, first, places),
+        (false, false) => fill_quickly(BigEndian, Class::ELF32, bytes, strings, first, places),
     }
 }
 
@@ -136,14 +115,11 @@ fn fill_rest<'data>(
     places: &mut [NugwierNamedSymbol<'data>],
 ) -> usize
     requires within { start ≤ length places.old }
-    requires front { AreNamed (table_of_c table.now) (strings_view strings.now) first start places.old }
+    requires front { AreHeld IsNamed (named_symbol (table_of_c table.now) (strings_view strings.now)) first start
+        places.old }
     ensures from { start ≤ result }
-    ensures count { result ≤ length places.new }
-    ensures read { AreNamed (table_of_c table.now) (strings_view strings.now) first result places.new }
-    ensures rest { drop result places.new ≡ drop result places.old }
-    ensures all { result < length places.new →
-        IsErr (named_symbol (table_of_c table.now) (strings_view strings.now) (first + result))
-        ⊎ (2 ^ 64 ≤ first + result) }
+    ensures filled { AreFilled IsNamed (named_symbol (table_of_c table.now) (strings_view strings.now)) first result
+        places.old places.new }
 {
     let symbols = records_in::<Symbol>(table);
     let mut count = start;
@@ -163,7 +139,7 @@ fn fill_rest<'data>(
 /// Fills `symbols` with the symbols of a table and their names, the first of them number `first`. Returns how many were
 /// written: up to the first that cannot be read, or whose name cannot be found in `strings`, and no more than there are
 /// places.
-#[tactic(auto, using(crate::proofs::Filling::rest_both))]
+#[tactic(auto, using(crate::proofs::Filling::all_filled))]
 #[unsafe(no_mangle)]
 pub extern "C" fn nugwier_named_symbols<'data>(
     table: &NugwierTable<'_>,
@@ -171,11 +147,8 @@ pub extern "C" fn nugwier_named_symbols<'data>(
     first: usize,
     symbols: &mut [NugwierNamedSymbol<'data>],
 ) -> usize
-    ensures count { result ≤ length symbols.new }
-    ensures read { AreNamed (table_of_c table.now) strings.now first result symbols.new }
-    ensures rest { drop result symbols.new ≡ drop result symbols.old }
-    ensures all { result < length symbols.new →
-        IsErr (named_symbol (table_of_c table.now) strings.now (first + result)) ⊎ (2 ^ 64 ≤ first + result) }
+    ensures { AreFilled IsNamed (named_symbol (table_of_c table.now) strings.now) first result
+        symbols.old symbols.new }
 {
     let strings = StringTable::new(strings);
     let front = fill_front(table, &strings, first, symbols);

@@ -1,7 +1,8 @@
 //! Notes.
-ghost use Rattle.std.specs.Prelude.{◌≡◌, ◌<◌, ◌≤◌, IsErr, Ok, drop, length};
+ghost use Rattle.std.specs.Prelude.{◌≡◌, ◌<◌, IsErr, Ok, length};
 ghost use Rattle.elf_parts.specs.Note.{note_view};
-ghost use Rattle.elf_c.specs.Notes.{AreNotes, IsNote, IsNoteWritten, note_after, note_of_c};
+ghost use Rattle.elf_c.specs.Filled.{AreRead};
+ghost use Rattle.elf_c.specs.Notes.{IsNote, IsNoteWritten, IsShown, note_after, note_from, note_of_c};
 ghost use Rattle.elf_c.specs.Status.{status_of, written};
 
 use crate::status::{NugwierStatus, done, refused};
@@ -98,16 +99,15 @@ pub extern "C" fn nugwier_note<'data>(
 
 /// Fills `places` with the notes from `offset` on, moves `offset` to where the next note begins, and returns how many
 /// notes these are: up to the first that cannot be read, and no more than there are places.
+#[tactic(auto, using(crate::proofs::Filling::none_read))]
 #[unsafe(no_mangle)]
 pub extern "C" fn nugwier_note_list<'data>(
     notes: &NugwierNotes<'data>,
     offset: &mut usize,
     places: &mut [NugwierNote<'data>],
 ) -> usize
-    ensures count { result ≤ length places.new }
-    ensures read { AreNotes notes.now offset.old result places.new }
+    ensures read { AreRead IsShown (note_from notes.now offset.old) 0 result places.old places.new }
     ensures moved { note_after notes.now result offset.old ≡ Ok offset.new }
-    ensures rest { drop result places.new ≡ drop result places.old }
     ensures all { result < length places.new → IsErr (note_of_c notes.now offset.new) }
 {
     let mut count = 0;

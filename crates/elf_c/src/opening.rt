@@ -12,9 +12,8 @@ ghost use Rattle.elf_c.specs.inner.Steps.{count_by, first_by, header_by, moved, 
 ghost use Rattle.elf_c.specs.inner.Steps.{table_by};
 
 use crate::file::{NugwierFile, file_shown};
-use crate::loaded::Loaded;
 use crate::status::{NugwierStatus, done, unread};
-use elf::{ElfBytes, LoadedRange, ParseError, ReadError, abi};
+use elf::{ElfBytes, LoadedParts, LoadedRange, ParseError, ReadError, abi};
 use elf_parts::endian::AnyEndian;
 use elf_parts::file::{Class, ELF32_EHDR_TAILSIZE, ELF64_EHDR_TAILSIZE, FileHeader, parse_ident};
 use elf_parts::parse::{ParseAt, ParsingTable};
@@ -23,7 +22,7 @@ use elf_reading::tables::DeclaredTable;
 
 // The file header.
 #[tactic(auto, unfolding(crate::specs::inner::Steps::header_by))]
-fn read_ehdr(loaded: &Loaded<'_>) -> Result<FileHeader<AnyEndian>, ReadError>
+fn read_ehdr(loaded: &LoadedParts<'_>) -> Result<FileHeader<AnyEndian>, ReadError>
     ensures { result ≡ header_by loaded.now.size (ranges_of loaded.now) }
 {
     let ident = parse_ident(loaded.range(0, abi::EI_NIDENT as u64)?)?;
@@ -55,7 +54,7 @@ fn moved(error: ParseError, by: u64) -> ParseError
 // The first section header. It holds the counts that do not fit the file header. The part of it that lies in the file is
 // read, so the error is that of the first field that does not.
 fn first_section(
-    loaded: &Loaded<'_>,
+    loaded: &LoadedParts<'_>,
     ehdr: &FileHeader<AnyEndian>,
 ) -> Result<SectionHeader, ReadError>
     ensures { result ≡ first_by loaded.now.size (ranges_of loaded.now) ehdr.now }
@@ -72,7 +71,7 @@ fn first_section(
 
 // The number of records of a table.
 fn record_count(
-    loaded: &Loaded<'_>,
+    loaded: &LoadedParts<'_>,
     ehdr: &FileHeader<AnyEndian>,
     table: DeclaredTable,
 ) -> Result<u64, ReadError>
@@ -87,7 +86,7 @@ fn record_count(
 
 // The bytes of this many records of a table.
 fn table_bytes<'data, P: ParseAt>(
-    loaded: &Loaded<'data>,
+    loaded: &LoadedParts<'data>,
     class: Class,
     table: DeclaredTable,
     count: u64,
@@ -104,7 +103,7 @@ fn table_bytes<'data, P: ParseAt>(
 
 // A table of headers, or `None` if the file declares none.
 fn find_table<'data, P: ParseAt>(
-    loaded: &Loaded<'data>,
+    loaded: &LoadedParts<'data>,
     ehdr: &FileHeader<AnyEndian>,
     table: DeclaredTable,
 ) -> Result<Option<ParsingTable<'data, AnyEndian, P>>, ReadError>
@@ -121,15 +120,15 @@ fn find_table<'data, P: ParseAt>(
 }
 
 // The file that is opened.
-fn opened<'data>(loaded: &Loaded<'data>) -> Result<ElfBytes<'data, AnyEndian>, ReadError>
+fn opened<'data>(loaded: &LoadedParts<'data>) -> Result<ElfBytes<'data, AnyEndian>, ReadError>
     ensures value { ok_map view result
-        ≡ opened_by loaded.now.size (ranges_of loaded.now) loaded.now.bytes.now }
+        ≡ opened_by loaded.now.size (ranges_of loaded.now) loaded.now.front.now }
     ensures own { IfOk result (λ file. HasOwnTables (view file)) }
 {
     let ehdr = read_ehdr(loaded)?;
     let shdrs = find_table(loaded, &ehdr, DeclaredTable::of_sections(&ehdr))?;
     let phdrs = find_table(loaded, &ehdr, DeclaredTable::of_segments(&ehdr))?;
-    Ok(ElfBytes::from_parts(ehdr, loaded.bytes, shdrs, phdrs))
+    Ok(ElfBytes::from_parts(ehdr, loaded.front, shdrs, phdrs))
 }
 
 /// Opens a file of `size` bytes that has these ranges loaded: reads its header, and finds its two tables of headers.
@@ -146,9 +145,9 @@ pub extern "C" fn nugwier_open_ranges<'data>(
     ensures { (bytes : List ℕ) → size ≡ length bytes → All (IsOf bytes) (map part_of ranges.now)
         → IsOpened bytes ranges.now file.old file.new result }
 {
-    let loaded = Loaded {
+    let loaded = LoadedParts {
         size,
-        bytes: &[],
+        front: &[],
         ranges,
     };
     match opened(&loaded) {

@@ -1,10 +1,25 @@
 //! A file is read as far as it is loaded.
+ghost use Rattle.std.specs.Prelude.{◌≡◌};
+
 use crate::file::{NugwierFile, file_in};
-use crate::loaded::loaded_in;
-use elf::ReadError;
 use elf::headers::{FileHeaders, Headers, sections_of, segments_of};
 use elf::reader::Reader;
+use elf::{LoadedParts, ReadError};
 use elf_parts::endian::AnyEndian;
+
+// What is loaded of a file.
+#[inline(always)]
+pub(crate) fn loaded_in<'data>(file: &NugwierFile<'data>) -> LoadedParts<'data>
+    ensures size { result.size ≡ file.now.size }
+    ensures front { result.front ≡ file.now.bytes }
+    ensures ranges { result.ranges ≡ file.now.ranges }
+{
+    LoadedParts {
+        size: file.size,
+        front: file.bytes,
+        ranges: file.ranges,
+    }
+}
 
 impl<'data> Headers<AnyEndian> for NugwierFile<'data> {
     ghost use Rattle.elf_c.specs.Loaded.{headers_of_c};

@@ -1,12 +1,12 @@
 //! Records: the structs in which C sees them, and the reads of one or many records of a table.
-ghost use Rattle.std.specs.Prelude.{◌≡◌, ◌+◌, ◌<◌, ◌≤◌, ◌^◌, ◌⊎◌, IsErr, drop, length};
+ghost use Rattle.std.specs.Prelude.{◌≡◌};
 ghost use Rattle.elf_records.specs.Dynamic.{dyn_reads};
 ghost use Rattle.elf_records.specs.Relocation.{rel_reads, rela_reads};
 ghost use Rattle.elf_records.specs.Section.{section_header_reads};
 ghost use Rattle.elf_records.specs.Segment.{program_header_reads};
 ghost use Rattle.elf_records.specs.Symbol.{symbol_reads};
 ghost use Rattle.elf_records.specs.Table.{table_get, table_len};
-ghost use Rattle.elf_c.specs.Filled.{IsFilled};
+ghost use Rattle.elf_c.specs.Filled.{AreFilled, IsShown};
 ghost use Rattle.elf_c.specs.Records.{dynamic_shown, rel_shown, rela_shown, section_in, section_shown, segment_in};
 ghost use Rattle.elf_c.specs.Records.{segment_shown, symbol_shown};
 ghost use Rattle.elf_c.specs.Status.{status_of, written};
@@ -257,11 +257,8 @@ pub extern "C" fn nugwier_symbols(
     first: usize,
     symbols: &mut [NugwierSymbol],
 ) -> usize
-    ensures count { result ≤ length symbols.new }
-    ensures read { IsFilled symbol_reads symbol_shown (table_of_c table.now) first result symbols.new }
-    ensures rest { drop result symbols.new ≡ drop result symbols.old }
-    ensures all { result < length symbols.new →
-        IsErr (table_get symbol_reads (table_of_c table.now) (first + result)) ⊎ (2 ^ 64 ≤ first + result) }
+    ensures { AreFilled (IsShown symbol_shown) (table_get symbol_reads (table_of_c table.now)) first result
+        symbols.old symbols.new }
 {
     fill::<Symbol>(table, first, symbols)
 }
@@ -289,11 +286,8 @@ pub extern "C" fn nugwier_rels(
     first: usize,
     rels: &mut [NugwierRel],
 ) -> usize
-    ensures count { result ≤ length rels.new }
-    ensures read { IsFilled rel_reads rel_shown (table_of_c table.now) first result rels.new }
-    ensures rest { drop result rels.new ≡ drop result rels.old }
-    ensures all { result < length rels.new →
-        IsErr (table_get rel_reads (table_of_c table.now) (first + result)) ⊎ (2 ^ 64 ≤ first + result) }
+    ensures { AreFilled (IsShown rel_shown) (table_get rel_reads (table_of_c table.now)) first result
+        rels.old rels.new }
 {
     fill::<Rel>(table, first, rels)
 }
@@ -321,11 +315,8 @@ pub extern "C" fn nugwier_relas(
     first: usize,
     relas: &mut [NugwierRela],
 ) -> usize
-    ensures count { result ≤ length relas.new }
-    ensures read { IsFilled rela_reads rela_shown (table_of_c table.now) first result relas.new }
-    ensures rest { drop result relas.new ≡ drop result relas.old }
-    ensures all { result < length relas.new →
-        IsErr (table_get rela_reads (table_of_c table.now) (first + result)) ⊎ (2 ^ 64 ≤ first + result) }
+    ensures { AreFilled (IsShown rela_shown) (table_get rela_reads (table_of_c table.now)) first result
+        relas.old relas.new }
 {
     fill::<Rela>(table, first, relas)
 }
@@ -353,11 +344,8 @@ pub extern "C" fn nugwier_dynamics(
     first: usize,
     dynamics: &mut [NugwierDynamic],
 ) -> usize
-    ensures count { result ≤ length dynamics.new }
-    ensures read { IsFilled dyn_reads dynamic_shown (table_of_c table.now) first result dynamics.new }
-    ensures rest { drop result dynamics.new ≡ drop result dynamics.old }
-    ensures all { result < length dynamics.new →
-        IsErr (table_get dyn_reads (table_of_c table.now) (first + result)) ⊎ (2 ^ 64 ≤ first + result) }
+    ensures { AreFilled (IsShown dynamic_shown) (table_get dyn_reads (table_of_c table.now)) first result
+        dynamics.old dynamics.new }
 {
     fill::<Dyn>(table, first, dynamics)
 }
@@ -370,11 +358,8 @@ pub extern "C" fn nugwier_sections(
     first: usize,
     sections: &mut [NugwierSection],
 ) -> usize
-    ensures count { result ≤ length sections.new }
-    ensures read { IsFilled section_header_reads section_shown (table_of_c table.now) first result sections.new }
-    ensures rest { drop result sections.new ≡ drop result sections.old }
-    ensures all { result < length sections.new →
-        IsErr (table_get section_header_reads (table_of_c table.now) (first + result)) ⊎ (2 ^ 64 ≤ first + result) }
+    ensures { AreFilled (IsShown section_shown) (table_get section_header_reads (table_of_c table.now)) first result
+        sections.old sections.new }
 {
     fill::<SectionHeader>(table, first, sections)
 }
@@ -387,11 +372,8 @@ pub extern "C" fn nugwier_segments(
     first: usize,
     segments: &mut [NugwierSegment],
 ) -> usize
-    ensures count { result ≤ length segments.new }
-    ensures read { IsFilled program_header_reads segment_shown (table_of_c table.now) first result segments.new }
-    ensures rest { drop result segments.new ≡ drop result segments.old }
-    ensures all { result < length segments.new →
-        IsErr (table_get program_header_reads (table_of_c table.now) (first + result)) ⊎ (2 ^ 64 ≤ first + result) }
+    ensures { AreFilled (IsShown segment_shown) (table_get program_header_reads (table_of_c table.now)) first result
+        segments.old segments.new }
 {
     fill::<ProgramHeader>(table, first, segments)
 }

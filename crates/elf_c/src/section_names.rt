@@ -15,7 +15,7 @@ ghost use Rattle.elf_c.specs.SectionNames.{names_view, no_names_in, some_or};
 ghost use Rattle.elf_c.specs.Status.{IsWrittenIf, done, read_status, written};
 
 use crate::file::NugwierFile;
-use crate::loaded::loaded_in;
+use crate::reading::loaded_in;
 use crate::records::NugwierSection;
 use crate::status::{NugwierStatus, done, unread};
 use crate::table::{ForC, records_in};

@@ -1,7 +1,7 @@
 //! Tables of records: their bytes, with their byte order and class.
-ghost use Rattle.std.specs.Prelude.{◌≡◌, ◌+◌, ◌*◌, ◌<◌, ◌≤◌, ◌^◌, ◌⊎◌, IfSome, IsErr, drop, length, true};
+ghost use Rattle.std.specs.Prelude.{◌≡◌, ◌*◌, ◌<◌, ◌≤◌, ◌^◌, IfSome, drop, length, true};
 ghost use Rattle.elf_records.specs.Table.{table_get, table_in, table_len, table_view};
-ghost use Rattle.elf_c.specs.Filled.{IsFilled};
+ghost use Rattle.elf_c.specs.Filled.{AreFilled, AreHeld, AreRead, IsShown};
 ghost use Rattle.elf_c.specs.Status.{status_of, written};
 ghost use Rattle.elf_c.specs.Tables.{class_in, is_64, order_in, table_of_c};
 
@@ -123,6 +123,7 @@ pub(crate) fn bytes_from(bytes: &[u8], first: usize, size: usize) -> Option<&[u8
 // Fills places with the records of a table starting at `first`, as far as each can be read from its own bytes. It may
 // stop early. Inlined, so the compiler knows the byte order and the size of a record: the bounds are checked once a
 // record.
+#[tactic(auto, using(crate::proofs::Filling::none_read))]
 #[inline(always)]
 fn fill_quickly<R: ForC, E: EndianParse>(
     endian: E,
@@ -132,9 +133,8 @@ fn fill_quickly<R: ForC, E: EndianParse>(
     places: &mut [R::Seen],
 ) -> usize
     requires { R.reads.local ≡ true }
-    ensures count { result ≤ length places.new }
-    ensures read { IsFilled R.reads R.shown (table_in (E.little endian) class bytes.now) first result places.new }
-    ensures rest { drop result places.new ≡ drop result places.old }
+    ensures { AreRead (IsShown R.shown) (table_get R.reads (table_in (E.little endian) class bytes.now)) first result
+        places.old places.new }
 {
     let size = R::size_for(class);
     let Some(mut left) = bytes_from(bytes, first, size) else {
@@ -167,9 +167,8 @@ fn fill_in_order<R: ForC, E: EndianParse>(
 ) -> usize
     requires order { E.little endian ≡ table.now.little }
     requires local { R.reads.local ≡ true }
-    ensures count { result ≤ length places.new }
-    ensures read { IsFilled R.reads R.shown (table_of_c table.now) first result places.new }
-    ensures rest { drop result places.new ≡ drop result places.old }
+    ensures { AreRead (IsShown R.shown) (table_get R.reads (table_of_c table.now)) first result
+        places.old places.new }
 {
     if table.is_64 {
         fill_quickly::<R, E>(endian, Class::ELF64, table.bytes, first, places)
@@ -179,11 +178,11 @@ fn fill_in_order<R: ForC, E: EndianParse>(
 }
 
 // Fills the front of the places; `fill_rest` fills what is left.
+#[tactic(auto, using(crate::proofs::Filling::none_read))]
 #[inline(always)]
 fn fill_front<R: ForC>(table: &NugwierTable<'_>, first: usize, places: &mut [R::Seen]) -> usize
-    ensures count { result ≤ length places.new }
-    ensures read { IsFilled R.reads R.shown (table_of_c table.now) first result places.new }
-    ensures rest { drop result places.new ≡ drop result places.old }
+    ensures { AreRead (IsShown R.shown) (table_get R.reads (table_of_c table.now)) first result
+        places.old places.new }
 {
     if !R::SHAPE.2 {
         return 0;
@@ -204,13 +203,10 @@ fn fill_rest<R: ForC>(
     places: &mut [R::Seen],
 ) -> usize
     requires within { start ≤ length places.old }
-    requires front { IsFilled R.reads R.shown (table_of_c table.now) first start places.old }
+    requires front { AreHeld (IsShown R.shown) (table_get R.reads (table_of_c table.now)) first start places.old }
     ensures from { start ≤ result }
-    ensures count { result ≤ length places.new }
-    ensures read { IsFilled R.reads R.shown (table_of_c table.now) first result places.new }
-    ensures rest { drop result places.new ≡ drop result places.old }
-    ensures all { result < length places.new →
-        IsErr (table_get R.reads (table_of_c table.now) (first + result)) ⊎ (2 ^ 64 ≤ first + result) }
+    ensures filled { AreFilled (IsShown R.shown) (table_get R.reads (table_of_c table.now)) first result
+        places.old places.new }
 {
     let records = records_in::<R>(table);
     let mut count = start;
@@ -229,14 +225,11 @@ fn fill_rest<R: ForC>(
 
 // Fills places with the records of a table starting at `first`, and returns how many these are: up to the first that
 // cannot be read, and no more than there are places.
-#[tactic(auto, using(crate::proofs::Filling::rest_both))]
+#[tactic(auto, using(crate::proofs::Filling::all_filled))]
 #[inline(always)]
 pub(crate) fn fill<R: ForC>(table: &NugwierTable<'_>, first: usize, places: &mut [R::Seen]) -> usize
-    ensures count { result ≤ length places.new }
-    ensures read { IsFilled R.reads R.shown (table_of_c table.now) first result places.new }
-    ensures rest { drop result places.new ≡ drop result places.old }
-    ensures all { result < length places.new →
-        IsErr (table_get R.reads (table_of_c table.now) (first + result)) ⊎ (2 ^ 64 ≤ first + result) }
+    ensures { AreFilled (IsShown R.shown) (table_get R.reads (table_of_c table.now)) first result
+        places.old places.new }
 {
     let front = fill_front::<R>(table, first, places);
     if front == places.len() {

@@ -83,19 +83,6 @@ impl NeedPlace for NugwierVersionPlace {
     }
 }
 
-// No definition.
-fn no_definition() -> NugwierPlacedDefinition
-    ensures { (t : Table) → defined_held t result ≡ None }
-{
-    NugwierPlacedDefinition {
-        found: 0,
-        flags: 0,
-        hash: 0,
-        count: 0,
-        offset: 0,
-    }
-}
-
 // What is placed of a definition that begins at the offset `start`.
 fn placed_definition(
     definitions: &Links<'_, AnyEndian, VerDef>,
@@ -198,7 +185,7 @@ pub(crate) fn definition_with(
         Some((start, definition)) => {
             placed_definition(&definitions_in(definitions), start, &definition)
         }
-        None => no_definition(),
+        None => NugwierPlacedDefinition::default(),
     }
 }
 

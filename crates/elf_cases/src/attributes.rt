@@ -1,49 +1,43 @@
 //! Build attributes.
 use crate::row_words::Words;
-use crate::shown::show_or_error;
-use elf::endian::AnyEndian;
+use crate::shown::{Shown, show};
 use elf_attributes::attributes::{
     Vendor, first_attribute, first_scope, first_subsection, subsections_of,
 };
 use elf_attributes::leb128::{after_list, first_number, first_text};
-use std::io;
 
 /// `attributes KIND ORDER BYTES`: the first `number`, `text`, `list`, `subsection` or `scope` of the bytes, or the first
 /// attribute of the vendor `arm`, `riscv` or `gnu`, and the bytes after it; or the `subsections` of a section.
-pub(crate) fn show_attributes(rt: &HostRuntime, words: &mut Words<'_>) -> io::Result<()> {
+pub(crate) fn show_attributes(rt: &HostRuntime, words: &mut Words<'_>) -> Shown {
     let kind = words.word();
     let order = words.order();
     let data = words.bytes(rt);
     let data = data.as_slice();
     match kind {
-        "number" => show_or_error(rt, first_number(data)),
-        "text" => show_or_error(rt, first_text(data)),
-        "list" => show_or_error(rt, after_list(data)),
-        "subsections" => show_or_error(rt, subsections_of(data)),
-        "subsection" => show_subsection(rt, order, data),
-        "scope" => show_scope(rt, order, data),
+        "number" => show(rt, first_number(data)),
+        "text" => show(rt, first_text(data)),
+        "list" => show(rt, after_list(data)),
+        "subsections" => show(rt, subsections_of(data)),
+        "subsection" => {
+            let found = first_subsection(order, data);
+            show(
+                rt,
+                found.map(|(part, rest)| (part.vendor, part.content, rest)),
+            )
+        }
+        "scope" => {
+            let found = first_scope(order, data);
+            show(rt, found.map(|(part, rest)| (part.tag, part.content, rest)))
+        }
         "arm" => show_attribute(rt, Vendor::Arm, data),
         "riscv" => show_attribute(rt, Vendor::Riscv, data),
         _ => show_attribute(rt, Vendor::Gnu, data),
     }
 }
 
-fn show_subsection(rt: &HostRuntime, order: AnyEndian, data: &[u8]) -> io::Result<()> {
-    let found = first_subsection(order, data);
-    show_or_error(
-        rt,
-        found.map(|(part, rest)| (part.vendor, part.content, rest)),
-    )
-}
-
-fn show_scope(rt: &HostRuntime, order: AnyEndian, data: &[u8]) -> io::Result<()> {
-    let found = first_scope(order, data);
-    show_or_error(rt, found.map(|(part, rest)| (part.tag, part.content, rest)))
-}
-
-fn show_attribute(rt: &HostRuntime, vendor: Vendor, data: &[u8]) -> io::Result<()> {
+fn show_attribute(rt: &HostRuntime, vendor: Vendor, data: &[u8]) -> Shown {
     let found = first_attribute(vendor, data);
-    show_or_error(
+    show(
         rt,
         found.map(|(one, rest)| (one.tag, one.number, one.text, rest)),
     )

@@ -1,6 +1,6 @@
 //! What references bind to.
 use crate::row_words::{Words, field_of};
-use crate::shown::show_or_error;
+use crate::shown::{Shown, show};
 use crate::version_words::VersionBytes;
 use elf::endian::AnyEndian;
 use elf::file::Class;
@@ -13,11 +13,10 @@ use elf_linking::{
 };
 use elf_tools::symbol_versions::symbol_version;
 use elfshow::hashcheck::{Checked, HashKind, check_any};
-use std::io;
 
 /// `definition INFO OTHER SHNDX VALUE`: whether a symbol with these fields is a definition, and whether it is one for
 /// calls, for addresses and for copies.
-pub(crate) fn show_definition(rt: &HostRuntime, words: &mut Words<'_>) -> io::Result<()> {
+pub(crate) fn show_definition(rt: &HostRuntime, words: &mut Words<'_>) -> Shown {
     let symbol = Symbol {
         st_name: 0,
         st_info: words.number(),
@@ -30,31 +29,33 @@ pub(crate) fn show_definition(rt: &HostRuntime, words: &mut Words<'_>) -> io::Re
     let call = is_definition_for(ReferenceKind::JumpSlot, &symbol);
     let address = is_definition_for(ReferenceKind::Address, &symbol);
     let copy = is_definition_for(ReferenceKind::Copied, &symbol);
-    print!(rt; "{is_any} call {call} address {address} copy {copy}")
+    print!(rt; "{is_any} call {call} address {address} copy {copy}")?;
+    Ok(())
 }
 
 /// `reference_kind MACHINE TYPE`: how a file refers to a symbol by this type of relocation.
-pub(crate) fn show_kind(rt: &HostRuntime, words: &mut Words<'_>) -> io::Result<()> {
+pub(crate) fn show_kind(rt: &HostRuntime, words: &mut Words<'_>) -> Shown {
     let kind = reference_kind(words.number(), words.number());
-    print!(rt; "{kind:?}")
+    print!(rt; "{kind:?}")?;
+    Ok(())
 }
 
 /// `version_of SYMBOL INDEXES COUNT NEEDS STRINGS COUNT DEFINITIONS STRINGS`: the version of a symbol of a 64-bit file in
 /// little order by which references bind, and the one that is written after its name.
-pub(crate) fn show_version_of(rt: &HostRuntime, words: &mut Words<'_>) -> io::Result<()> {
+pub(crate) fn show_version_of(rt: &HostRuntime, words: &mut Words<'_>) -> Shown {
     let symbol = words.number();
     let bytes = VersionBytes::read(rt, AnyEndian::Little, Class::ELF64, words);
     let table = bytes.table();
-    show_or_error(rt, version_of(&table, symbol))?;
+    show(rt, version_of(&table, symbol))?;
     print!(rt; "; ")?;
-    show_or_error(rt, symbol_version(&table, symbol))
+    show(rt, symbol_version(&table, symbol))
 }
 
 /// `taken WANTED SECTION SYMBOLS STRINGS NAME INDEXES ..`: the symbol that a reference to a name takes in an object with
 /// this SysV section, in 64 bits and little order, and with the versions that the last words give as those of
 /// `version_of` do, or with none if it ends before them. WANTED is `any`, or `compatible=NAME:HASH` or
 /// `only=NAME:HASH`.
-pub(crate) fn show_taken(rt: &HostRuntime, words: &mut Words<'_>) -> io::Result<()> {
+pub(crate) fn show_taken(rt: &HostRuntime, words: &mut Words<'_>) -> Shown {
     let wanted = wanted_of(words);
     let section = words.bytes(rt);
     let symbols = words.bytes(rt);
@@ -79,7 +80,7 @@ pub(crate) fn show_taken(rt: &HostRuntime, words: &mut Words<'_>) -> io::Result<
             let versions = versions.as_ref().map(|bytes| bytes.table());
             show_found(rt, &VersionedObject { table, versions }, name, &wanted)
         }
-        _ => print!(rt; "no sound section"),
+        _ => Ok(print!(rt; "no sound section")?),
     }
 }
 
@@ -100,7 +101,7 @@ fn show_found(
     object: &VersionedObject<'_, AnyEndian, SymbolVersionTable<'_, AnyEndian>>,
     name: &str,
     wanted: &Wanted<'_>,
-) -> io::Result<()> {
+) -> Shown {
     let found = object.find(name.as_bytes(), wanted);
-    show_or_error(rt, found.map(|found| found.map(|(index, _)| index)))
+    show(rt, found.map(|found| found.map(|(index, _)| index)))
 }

@@ -1,12 +1,12 @@
 //! The cache of the dynamic linker.
 use crate::row_words::Words;
-use crate::shown::text;
+use crate::shown::{Shown, text};
 use elf_libraries::cache::{LibraryFlags, LinkerCache};
 use std::io;
 
 /// `cache ORDER CLASS MACHINE NAME HWCAPS FILE CHANGE..`: the path that the cache has for the name, with the subfolders
 /// for processors `HWCAPS`, commas between them, or `-`.
-pub(crate) fn show_cache(rt: &HostRuntime, words: &mut Words<'_>) -> io::Result<()> {
+pub(crate) fn show_cache(rt: &HostRuntime, words: &mut Words<'_>) -> Shown {
     let order = words.order();
     let class = words.class();
     let flags = LibraryFlags::of(words.number(), class);
@@ -15,12 +15,13 @@ pub(crate) fn show_cache(rt: &HostRuntime, words: &mut Words<'_>) -> io::Result<
     push_parts(&mut hwcaps, ',', words.word())?;
     let data = words.file(rt);
     match LinkerCache::new(order, data.as_slice()) {
-        Ok(cache) => match cache.lookup(&flags, hwcaps.as_slice(), name.as_bytes()) {
-            Some(path) => print!(rt; "{}", text(path)),
-            None => print!(rt; "none"),
-        },
-        Err(error) => print!(rt; "{error:?}, {error}"),
+        Ok(cache) => {
+            let found = cache.lookup(&flags, hwcaps.as_slice(), name.as_bytes());
+            print!(rt; "{}", found.map_or("none", text))?;
+        }
+        Err(error) => print!(rt; "{error:?}, {error}")?,
     }
+    Ok(())
 }
 
 /// Adds the parts of a word, with a separator between them; `-` has none.

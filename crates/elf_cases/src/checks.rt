@@ -1,6 +1,6 @@
 //! What the checkers say of hash sections.
 use crate::row_words::Words;
-use crate::shown::show_refusal;
+use crate::shown::Shown;
 use elf::ParseError;
 use elf::endian::AnyEndian;
 use elf::file::Class;
@@ -9,7 +9,6 @@ use elf::symbol::SymbolTable;
 use elfshow::hashcheck::{
     AnyChecked, Checked, HashKind, Reads, check_any, check_gnu_counted, check_sysv_counted,
 };
-use std::io;
 
 /// The words `KIND ORDER CLASS SECTION SYMBOLS STRINGS`: a hash section, and what it is checked with.
 #[derive(Drop)]
@@ -60,11 +59,7 @@ fn counted<'a>(section: &'a Section, reads: &mut Reads) -> Answer<'a> {
 /// finds for each name if it is sound, its fault if it is not, or the error; and whether from LEAST to MOST symbols
 /// were read for it.
 /// `verdict ..`: the same without the fault, for a section that has several.
-pub(crate) fn show_check(
-    rt: &HostRuntime,
-    is_fault_named: bool,
-    words: &mut Words<'_>,
-) -> io::Result<()> {
+pub(crate) fn show_check(rt: &HostRuntime, is_fault_named: bool, words: &mut Words<'_>) -> Shown {
     let section = section_of(rt, words);
     let (least, most): (u64, u64) = (words.number(), words.number());
     let names = words.rest();
@@ -78,36 +73,28 @@ pub(crate) fn show_check(
         }
         Ok(Checked::Faulty(fault)) if is_fault_named => print!(rt; "faulty {fault:?}")?,
         Ok(Checked::Faulty(_)) => print!(rt; "faulty")?,
-        Err(error) => show_refusal(rt, error)?,
+        Err(error) => print!(rt; "{error:?}, {error}")?,
     }
-    show_reads(rt, reads.count(), least, most)
-}
-
-fn show_reads(rt: &HostRuntime, count: u64, least: u64, most: u64) -> io::Result<()> {
+    let count = reads.count();
     if least <= count && count <= most {
-        print!(rt; "; reads from {least} to {most}")
+        print!(rt; "; reads from {least} to {most}")?;
     } else {
-        print!(rt; "; reads {count}, not from {least} to {most}")
+        print!(rt; "; reads {count}, not from {least} to {most}")?;
     }
+    Ok(())
 }
 
 /// `all KIND ORDER CLASS SECTION SYMBOLS STRINGS NAME..`: the index and the value of each indexed symbol of each name,
 /// in the order in which they are found, where the section is sound.
-pub(crate) fn show_all(rt: &HostRuntime, words: &mut Words<'_>) -> io::Result<()> {
+pub(crate) fn show_all(rt: &HostRuntime, words: &mut Words<'_>) -> Shown {
     let section = section_of(rt, words);
     let names = words.rest();
     let (order, class) = (section.order, section.class);
+    let bytes = section.bytes.as_slice();
     let symbols = SymbolTable::new(order, class, section.symbols.as_slice());
     let strings = StringTable::new(section.strings.as_slice());
-    match check_any(
-        section.kind,
-        order,
-        class,
-        section.bytes.as_slice(),
-        symbols,
-        strings,
-    ) {
-        Ok(Checked::Sound(table)) => {
+    match check_any(section.kind, order, class, bytes, symbols, strings)? {
+        Checked::Sound(table) => {
             for name in names {
                 print!(rt; "{name}")?;
                 for (index, symbol) in table.find_all(name.as_bytes()) {
@@ -115,9 +102,8 @@ pub(crate) fn show_all(rt: &HostRuntime, words: &mut Words<'_>) -> io::Result<()
                 }
                 print!(rt; ";")?;
             }
-            Ok(())
         }
-        Ok(Checked::Faulty(fault)) => print!(rt; "faulty {fault:?}"),
-        Err(error) => show_refusal(rt, error),
+        Checked::Faulty(fault) => print!(rt; "faulty {fault:?}")?,
     }
+    Ok(())
 }

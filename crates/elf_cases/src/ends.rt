@@ -2,6 +2,7 @@
 ghost use Rattle.std.specs.Iterator.{IsFinite};
 
 use crate::row_words::Words;
+use crate::shown::Shown;
 use elf::dynamic::Dyn;
 use elf::endian::AnyEndian;
 use elf::file::Class;
@@ -14,13 +15,12 @@ use elf::relocation::Rela;
 use elf::section::SectionHeader;
 use elf::string_table::StringTable;
 use elf::symbol::Symbol;
-use std::io;
 
 /// `ends KIND ORDER CLASS COUNT BYTES`: whether the iterator over the bytes starting at each place yields no more items
 /// than bytes, and no more linked records than the count, and then `None` three times. For notes the count is the
 /// alignment, for records of a table it is ignored. For linked records the greatest offset, which has none, is tried
 /// too.
-pub(crate) fn show_ends(rt: &HostRuntime, words: &mut Words<'_>) -> io::Result<()> {
+pub(crate) fn show_ends(rt: &HostRuntime, words: &mut Words<'_>) -> Shown {
     let kind = words.word();
     let order = words.order();
     let class = words.class();
@@ -34,10 +34,11 @@ pub(crate) fn show_ends(rt: &HostRuntime, words: &mut Words<'_>) -> io::Result<(
     for place in 0..=data.len() {
         let (_, rest) = data.as_slice().split_at(place);
         if !is_ended(row, kind, rest) {
-            return print!(rt; "goes on from place {place}");
+            return Ok(print!(rt; "goes on from place {place}")?);
         }
     }
-    print!(rt; "few items, then None three times")
+    print!(rt; "few items, then None three times")?;
+    Ok(())
 }
 
 /// The arguments of a row for an iterator.

@@ -1,15 +1,14 @@
 //! File headers, and files that are opened.
 use crate::methods::{Given, show_method, show_table};
 use crate::row_words::{Words, field_of};
-use crate::shown::{show, show_refusal};
+use crate::shown::{Shown, show};
 use elf::ElfBytes;
 use elf::endian::{AnyEndian, BigEndian, EndianParse, LittleEndian};
 use elf::file::{Class, FileHeader, parse_ident};
 use std::fmt::Debug;
-use std::io;
 
 /// `ident ORDER BYTES`: the identification.
-pub(crate) fn show_ident(rt: &HostRuntime, words: &mut Words<'_>) -> io::Result<()> {
+pub(crate) fn show_ident(rt: &HostRuntime, words: &mut Words<'_>) -> Shown {
     let order = words.word();
     let data = words.bytes(rt);
     let data = data.as_slice();
@@ -21,7 +20,7 @@ pub(crate) fn show_ident(rt: &HostRuntime, words: &mut Words<'_>) -> io::Result<
 }
 
 /// `tail ORDER CLASS BYTES`: the header of these bytes after an identification with osabi 7 and abiversion 9.
-pub(crate) fn show_tail(rt: &HostRuntime, words: &mut Words<'_>) -> io::Result<()> {
+pub(crate) fn show_tail(rt: &HostRuntime, words: &mut Words<'_>) -> Shown {
     let order = words.word();
     let class = words.class();
     let data = words.bytes(rt);
@@ -39,7 +38,7 @@ fn show_tail_by<E: EndianParse + Debug>(
     order: E,
     class: Class,
     data: &[u8],
-) -> io::Result<()> {
+) -> Shown {
     show(rt, FileHeader::<E>::parse_tail((order, class, 7, 9), data))
 }
 
@@ -51,7 +50,7 @@ fn show_tail_by<E: EndianParse + Debug>(
 /// any other: what a method of the opened file answers.
 /// A SET, as `shstrndx=2`, changes a field of the header of the opened file, or, as `offset=52`, of the header that the
 /// method is called with; `name=N` is the name that it is called with.
-pub(crate) fn show_file(rt: &HostRuntime, kind: &str, words: &mut Words<'_>) -> io::Result<()> {
+pub(crate) fn show_file(rt: &HostRuntime, kind: &str, words: &mut Words<'_>) -> Shown {
     let order = words.word();
     let data = words.file(rt);
     let data = data.as_slice();
@@ -67,20 +66,21 @@ fn show_file_by<E: EndianParse + Debug>(
     kind: &str,
     data: &[u8],
     words: &mut Words<'_>,
-) -> io::Result<()> {
+) -> Shown {
     if kind == "cuts" {
         return show_cuts::<E>(rt, data);
     }
-    match ElfBytes::<E>::minimal_parse(data) {
-        Ok(mut file) => {
-            let given = given_by(&mut file.ehdr, words);
-            show_opened(rt, kind, &file, given)
-        }
-        Err(error) => show_refusal(rt, error),
+    let mut file = ElfBytes::<E>::minimal_parse(data)?;
+    let given = given_by(&mut file.ehdr, words);
+    match kind {
+        "open" => show_counts(rt, &file),
+        "names" => show_names(rt, &file),
+        "file" => show_parts(rt, &file),
+        _ => show_method(rt, kind, &file, given),
     }
 }
 
-fn show_cuts<E: EndianParse>(rt: &HostRuntime, data: &[u8]) -> io::Result<()> {
+fn show_cuts<E: EndianParse>(rt: &HostRuntime, data: &[u8]) -> Shown {
     for length in 0..=data.len() {
         print!(rt; "\n    {length} ")?;
         match ElfBytes::<E>::minimal_parse(&data[..length]) {
@@ -123,48 +123,34 @@ fn set_field<E: EndianParse>(
     true
 }
 
-fn show_opened<E: EndianParse + Debug>(
-    rt: &HostRuntime,
-    kind: &str,
-    file: &ElfBytes<'_, E>,
-    given: Given<'_>,
-) -> io::Result<()> {
-    match kind {
-        "open" => show_counts(rt, file),
-        "names" => show_names(rt, file),
-        "file" => show_parts(rt, file),
-        _ => show_method(rt, kind, file, given),
-    }
-}
-
-fn show_counts<E: EndianParse>(rt: &HostRuntime, file: &ElfBytes<'_, E>) -> io::Result<()> {
+fn show_counts<E: EndianParse>(rt: &HostRuntime, file: &ElfBytes<'_, E>) -> Shown {
     let sections = file.section_headers().map(|table| table.len());
     let segments = file.segments().map(|table| table.len());
-    print!(rt; "sections {sections:?} segments {segments:?}")
+    print!(rt; "sections {sections:?} segments {segments:?}")?;
+    Ok(())
 }
 
-fn show_parts<E: EndianParse + Debug>(rt: &HostRuntime, file: &ElfBytes<'_, E>) -> io::Result<()> {
+fn show_parts<E: EndianParse + Debug>(rt: &HostRuntime, file: &ElfBytes<'_, E>) -> Shown {
     print!(rt; "\n  {:?}\n  sections ", file.ehdr)?;
-    show_table(rt, Ok(file.section_headers()))?;
+    show_table(rt, file.section_headers())?;
     print!(rt; "\n  segments ")?;
-    show_table(rt, Ok(file.segments()))
+    show_table(rt, file.segments())
 }
 
 /// The names of the sections.
-fn show_names<E: EndianParse>(rt: &HostRuntime, file: &ElfBytes<'_, E>) -> io::Result<()> {
-    match file.section_headers_with_strtab() {
-        Ok((Some(sections), Some(names))) => {
+fn show_names<E: EndianParse>(rt: &HostRuntime, file: &ElfBytes<'_, E>) -> Shown {
+    match file.section_headers_with_strtab()? {
+        (Some(sections), Some(names)) => {
             print!(rt; "of {}", sections.len())?;
             for section in sections.iter() {
                 print!(rt; "; ")?;
                 show(rt, names.get(section.sh_name as usize))?;
             }
-            Ok(())
         }
-        Ok((sections, names)) => {
+        (sections, names) => {
             let (sections, names) = (sections.is_some(), names.is_some());
-            print!(rt; "sections {sections} names {names}")
+            print!(rt; "sections {sections} names {names}")?;
         }
-        Err(error) => show_refusal(rt, error),
     }
+    Ok(())
 }

@@ -1,22 +1,22 @@
 //! Hashes of names, and hash sections.
 use crate::row_words::{Words, field_of};
-use crate::shown::{show, show_refusal};
+use crate::shown::{Shown, show};
 use elf::hash::{GnuHashHeader, GnuHashTable, SysVHashTable, gnu_hash, sysv_hash};
 use elf::string_table::StringTable;
 use elf::symbol::SymbolTable;
-use std::io;
 
 /// `hash BYTES`: both hashes.
-pub(crate) fn show_hashes(rt: &HostRuntime, words: &mut Words<'_>) -> io::Result<()> {
+pub(crate) fn show_hashes(rt: &HostRuntime, words: &mut Words<'_>) -> Shown {
     let name = words.bytes(rt);
     let sysv = sysv_hash(name.as_slice());
     let gnu = gnu_hash(name.as_slice());
-    print!(rt; "sysv {sysv} gnu {gnu}")
+    print!(rt; "sysv {sysv} gnu {gnu}")?;
+    Ok(())
 }
 
 /// `find KIND ORDER CLASS NAME SECTION SYMBOLS STRINGS SET..`: what the section finds for the name, or the error. A
 /// SET, as `nbloom=2`, changes a field of the header of a GNU hash table.
-pub(crate) fn show_find(rt: &HostRuntime, words: &mut Words<'_>) -> io::Result<()> {
+pub(crate) fn show_find(rt: &HostRuntime, words: &mut Words<'_>) -> Shown {
     let kind = words.word();
     let order = words.order();
     let class = words.class();
@@ -27,18 +27,12 @@ pub(crate) fn show_find(rt: &HostRuntime, words: &mut Words<'_>) -> io::Result<(
     let symbols = SymbolTable::new(order, class, symbols.as_slice());
     let strings = StringTable::new(strings.as_slice());
     if kind == "sysv" {
-        return match SysVHashTable::new(order, class, section.as_slice()) {
-            Ok(table) => show(rt, table.find(name.as_slice(), &symbols, &strings)),
-            Err(error) => show_refusal(rt, error),
-        };
+        let table = SysVHashTable::new(order, class, section.as_slice())?;
+        return show(rt, table.find(name.as_slice(), &symbols, &strings));
     }
-    match GnuHashTable::new(order, class, section.as_slice()) {
-        Ok(mut table) => {
-            set_fields(&mut table.hdr, words);
-            show(rt, table.find(name.as_slice(), &symbols, &strings))
-        }
-        Err(error) => show_refusal(rt, error),
-    }
+    let mut table = GnuHashTable::new(order, class, section.as_slice())?;
+    set_fields(&mut table.hdr, words);
+    show(rt, table.find(name.as_slice(), &symbols, &strings))
 }
 
 fn set_fields(hdr: &mut GnuHashHeader, words: &mut Words<'_>) {

@@ -43,7 +43,8 @@ mod versions;
 
 use row_words::Words;
 use rows::RowError;
-use std::{env, fs, io};
+use shown::{Shown, show_end};
+use std::{env, fs};
 
 fn main(rt: HostRuntime) -> Result<(), RowError> {
     let words: Vec<String> = env::args(&rt)?.skip(1).collect(rt.alloc())?;
@@ -66,13 +67,13 @@ fn show_all(rt: &HostRuntime) -> Result<(), RowError> {
 fn show_row(rt: &HostRuntime, row: &str) -> Result<(), RowError> {
     let mut words = Words::new(row);
     print!(rt; "{row}: ")?;
-    show_call(rt, &mut words)?;
+    show_end(rt, show_call(rt, &mut words))?;
     println!(rt)?;
     words.end()
 }
 
 /// What a call answers.
-fn show_call(rt: &HostRuntime, words: &mut Words<'_>) -> io::Result<()> {
+fn show_call(rt: &HostRuntime, words: &mut Words<'_>) -> Shown {
     match words.word() {
         "number" => numbers::show_number(rt, words),
         "order" => numbers::show_order(rt, words),
@@ -98,7 +99,7 @@ fn show_call(rt: &HostRuntime, words: &mut Words<'_>) -> io::Result<()> {
 }
 
 /// What a call of the crates above `elf` answers, or one of an opened file.
-fn show_tool(rt: &HostRuntime, kind: &str, words: &mut Words<'_>) -> io::Result<()> {
+fn show_tool(rt: &HostRuntime, kind: &str, words: &mut Words<'_>) -> Shown {
     match kind {
         "addresses" => addresses::show_addresses(rt, words),
         "archive" => archives::show_archive(rt, words),

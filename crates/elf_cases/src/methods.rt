@@ -1,19 +1,17 @@
 //! The answers of an opened file.
 use crate::common::show_common;
-use crate::notes::show_each;
+use crate::notes::show_all;
 use crate::records::show_items;
 use crate::row_words::Words;
-use crate::shown::{show, show_lines, show_refusal};
+use crate::shown::{Shown, show, show_lines};
+use elf::ElfBytes;
 use elf::endian::EndianParse;
-use elf::note::NoteIterator;
-use elf::parse::{ParseAt, ParsingIterator, ParsingTable};
+use elf::parse::{ParseAt, ParsingTable};
 use elf::section::SectionHeader;
 use elf::segment::ProgramHeader;
 use elf::string_table::StringTable;
 use elf::symbol::SymbolTable;
-use elf::{ElfBytes, ParseError};
 use std::fmt::Debug;
-use std::io;
 
 /// The arguments of a call: a name, and the fields of a header that the caller filled in.
 #[derive(Clone, Copy)]
@@ -85,82 +83,53 @@ pub(crate) fn show_method<E: EndianParse>(
     kind: &str,
     file: &ElfBytes<'_, E>,
     given: Given<'_>,
-) -> io::Result<()> {
+) -> Shown {
     let Given { name, shdr, phdr } = given;
     match kind {
         "by_name" => show(rt, file.section_header_by_name(name)),
-        "symbols" => show_symbols(rt, file.symbol_table()),
-        "dynsyms" => show_symbols(rt, file.dynamic_symbol_table()),
-        "dynamic" => show_table(rt, file.dynamic()),
+        "symbols" => show_symbols(rt, file.symbol_table()?),
+        "dynsyms" => show_symbols(rt, file.dynamic_symbol_table()?),
+        "dynamic" => show_table(rt, file.dynamic()?),
         "common" => show_common(rt, file, name.as_bytes()),
-        "common_dynamic" => { show_table(rt, file.find_common_data().map(|common| common.dynamic)) }
+        "common_dynamic" => show_table(rt, file.find_common_data()?.dynamic),
         "segment" => show(rt, file.segment_data(&phdr)),
-        "segment_notes" => show_notes(rt, file.segment_data_as_notes(&phdr)),
+        "segment_notes" => show_all(rt, file.segment_data_as_notes(&phdr)?),
         "data" => show(rt, file.section_data(&shdr)),
-        "strings" => show_strings(rt, file.section_data_as_strtab(&shdr)),
-        "rels" => show_list(rt, file.section_data_as_rels(&shdr)),
-        "relas" => show_list(rt, file.section_data_as_relas(&shdr)),
-        "section_notes" => show_notes(rt, file.section_data_as_notes(&shdr)),
-        _ => print!(rt; "no such call"),
+        "strings" => show_strings(rt, file.section_data_as_strtab(&shdr)?),
+        "rels" => show_lines(rt, file.section_data_as_rels(&shdr)?),
+        "relas" => show_lines(rt, file.section_data_as_relas(&shdr)?),
+        "section_notes" => show_all(rt, file.section_data_as_notes(&shdr)?),
+        _ => Ok(print!(rt; "no such call")?),
     }
 }
 
-fn show_strings(rt: &HostRuntime, answer: Result<StringTable<'_>, ParseError>) -> io::Result<()> {
-    match answer {
-        Ok(strings) => {
-            show(rt, strings.get_raw(0))?;
-            print!(rt; "; ")?;
-            show(rt, strings.get_raw(1))
-        }
-        Err(error) => show_refusal(rt, error),
-    }
-}
-
-fn show_notes<E: EndianParse>(
-    rt: &HostRuntime,
-    answer: Result<NoteIterator<'_, E>, ParseError>,
-) -> io::Result<()> {
-    match answer {
-        Ok(notes) => show_each(rt, notes),
-        Err(error) => show_refusal(rt, error),
-    }
-}
-
-fn show_list<E: EndianParse, P: ParseAt + Debug + Drop>(
-    rt: &HostRuntime,
-    answer: Result<ParsingIterator<'_, E, P>, ParseError>,
-) -> io::Result<()> {
-    match answer {
-        Ok(items) => show_lines(rt, items),
-        Err(error) => show_refusal(rt, error),
-    }
+fn show_strings(rt: &HostRuntime, strings: StringTable<'_>) -> Shown {
+    show(rt, strings.get_raw(0))?;
+    print!(rt; "; ")?;
+    show(rt, strings.get_raw(1))
 }
 
 fn show_symbols<E: EndianParse>(
     rt: &HostRuntime,
-    answer: Result<Option<(SymbolTable<'_, E>, StringTable<'_>)>, ParseError>,
-) -> io::Result<()> {
-    match answer {
-        Ok(Some((symbols, strings))) => {
-            print!(rt; "{}", symbols.len())?;
-            for symbol in symbols.iter() {
-                print!(rt; "\n    {symbol:?} ")?;
-                show(rt, strings.get_raw(symbol.st_name as usize))?;
-            }
-            Ok(())
-        }
-        Ok(None) => print!(rt; "none"),
-        Err(error) => show_refusal(rt, error),
+    found: Option<(SymbolTable<'_, E>, StringTable<'_>)>,
+) -> Shown {
+    let Some((symbols, strings)) = found else {
+        return Ok(print!(rt; "none")?);
+    };
+    print!(rt; "{}", symbols.len())?;
+    for symbol in symbols.iter() {
+        print!(rt; "\n    {symbol:?} ")?;
+        show(rt, strings.get_raw(symbol.st_name as usize))?;
     }
+    Ok(())
 }
 
 pub(crate) fn show_table<E: EndianParse, P: ParseAt + Debug + Drop>(
     rt: &HostRuntime,
-    answer: Result<Option<ParsingTable<'_, E, P>>, ParseError>,
-) -> io::Result<()> {
-    match answer {
-        Ok(Some(table)) => show_items(rt, &table, table.len()),
-        Ok(None) => print!(rt; "none"),
-        Err(error) => show_refusal(rt, error),
+    found: Option<ParsingTable<'_, E, P>>,
+) -> Shown {
+    match found {
+        Some(table) => show_items(rt, &table, table.len()),
+        None => Ok(print!(rt; "none")?),
     }
 }

@@ -1,23 +1,19 @@
 //! Notes.
 use crate::row_words::Words;
-use crate::shown::show;
+use crate::shown::{Shown, show};
 use elf::endian::EndianParse;
 use elf::note::{Note, NoteIterator};
-use std::io;
 
 /// `notes ORDER CLASS ALIGNMENT BYTES`: the notes, those of no known kind with their names as text.
-pub(crate) fn show_notes(rt: &HostRuntime, words: &mut Words<'_>) -> io::Result<()> {
+pub(crate) fn show_notes(rt: &HostRuntime, words: &mut Words<'_>) -> Shown {
     let order = words.order();
     let class = words.class();
     let align = words.number();
     let data = words.bytes(rt);
-    show_each(rt, NoteIterator::new(order, class, align, data.as_slice()))
+    show_all(rt, NoteIterator::new(order, class, align, data.as_slice()))
 }
 
-pub(crate) fn show_each<E: EndianParse>(
-    rt: &HostRuntime,
-    notes: NoteIterator<'_, E>,
-) -> io::Result<()> {
+pub(crate) fn show_all<E: EndianParse>(rt: &HostRuntime, notes: NoteIterator<'_, E>) -> Shown {
     for note in notes {
         print!(rt; "\n    {note:?}")?;
         if let Note::Unknown(any) = &note {

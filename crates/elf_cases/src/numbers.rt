@@ -1,12 +1,11 @@
 //! Numbers, and the orders of their bytes.
 use crate::row_words::Words;
-use crate::shown::{show, show_refusal};
+use crate::shown::{Shown, show};
 use elf::endian::{AnyEndian, BigEndian, EndianParse, LittleEndian};
 use std::fmt::Debug;
-use std::io;
 
 /// `number KIND ORDER OFFSET BYTES`: the number, and the offset afterwards.
-pub(crate) fn show_number(rt: &HostRuntime, words: &mut Words<'_>) -> io::Result<()> {
+pub(crate) fn show_number(rt: &HostRuntime, words: &mut Words<'_>) -> Shown {
     let kind = words.word();
     let order = words.word();
     let offset = words.number();
@@ -26,22 +25,22 @@ fn show_number_by<E: EndianParse>(
     kind: &str,
     start: usize,
     data: &[u8],
-) -> io::Result<()> {
+) -> Shown {
     let mut offset = start;
-    let shown = match kind {
+    match kind {
         "u8" => show(rt, order.parse_u8_at(&mut offset, data)),
         "u16" => show(rt, order.parse_u16_at(&mut offset, data)),
         "u32" => show(rt, order.parse_u32_at(&mut offset, data)),
         "u64" => show(rt, order.parse_u64_at(&mut offset, data)),
         "i32" => show(rt, order.parse_i32_at(&mut offset, data)),
         _ => show(rt, order.parse_i64_at(&mut offset, data)),
-    };
-    shown?;
-    print!(rt; " offset {offset}")
+    }?;
+    print!(rt; " offset {offset}")?;
+    Ok(())
 }
 
 /// `order TYPE BYTE`: the order that the byte names, and its properties.
-pub(crate) fn show_order(rt: &HostRuntime, words: &mut Words<'_>) -> io::Result<()> {
+pub(crate) fn show_order(rt: &HostRuntime, words: &mut Words<'_>) -> Shown {
     let kind = words.word();
     let data = words.bytes(rt);
     let Some(byte) = data.first().copied() else {
@@ -54,14 +53,11 @@ pub(crate) fn show_order(rt: &HostRuntime, words: &mut Words<'_>) -> io::Result<
     }
 }
 
-fn show_order_by<E: EndianParse + Debug>(rt: &HostRuntime, byte: u8) -> io::Result<()> {
-    match E::from_ei_data(byte) {
-        Ok(order) => {
-            let little = order.is_little();
-            let big = order.is_big();
-            let is_default = order == E::default();
-            print!(rt; "{order:?} little {little} big {big} default {is_default}")
-        }
-        Err(error) => show_refusal(rt, error),
-    }
+fn show_order_by<E: EndianParse + Debug>(rt: &HostRuntime, byte: u8) -> Shown {
+    let order = E::from_ei_data(byte)?;
+    let little = order.is_little();
+    let big = order.is_big();
+    let is_default = order == E::default();
+    print!(rt; "{order:?} little {little} big {big} default {is_default}")?;
+    Ok(())
 }

@@ -1,6 +1,6 @@
 //! Records, and tables of them.
 use crate::row_words::Words;
-use crate::shown::{show, show_lines, show_refusal};
+use crate::shown::{Shown, show, show_lines};
 use elf::compression::CompressionHeader;
 use elf::dynamic::Dyn;
 use elf::endian::{AnyEndian, EndianParse};
@@ -14,14 +14,13 @@ use elf::section::SectionHeader;
 use elf::segment::ProgramHeader;
 use elf::symbol::Symbol;
 use std::fmt::Debug;
-use std::io;
 
 /// `record KIND ORDER CLASS CALL NUMBER BYTES`, where CALL is
 /// `at`: the record at this offset, and the offset afterwards;
 /// `get`: the length of the table of the bytes, and its item with this index;
 /// `items`: the length of the table, and at most this number of its items;
 /// `size`: the size of a record, and whether the number is taken for it.
-pub(crate) fn show_record(rt: &HostRuntime, words: &mut Words<'_>) -> io::Result<()> {
+pub(crate) fn show_record(rt: &HostRuntime, words: &mut Words<'_>) -> Shown {
     let kind = words.word();
     let order = words.order();
     let class = words.class();
@@ -48,7 +47,7 @@ struct Row<'a> {
     data: &'a [u8],
 }
 
-fn show_kind(rt: &HostRuntime, kind: &str, row: Row<'_>) -> io::Result<()> {
+fn show_kind(rt: &HostRuntime, kind: &str, row: Row<'_>) -> Shown {
     match kind {
         "SectionHeader" => show_of::<SectionHeader>(rt, row),
         "ProgramHeader" => show_of::<ProgramHeader>(rt, row),
@@ -67,17 +66,17 @@ fn show_kind(rt: &HostRuntime, kind: &str, row: Row<'_>) -> io::Result<()> {
         "SysVHashHeader" => show_of::<SysVHashHeader>(rt, row),
         "GnuHashHeader" => show_of::<GnuHashHeader>(rt, row),
         "NoteGnuAbiTag" => show_of::<NoteGnuAbiTag>(rt, row),
-        _ => print!(rt; "no such record"),
+        _ => Ok(print!(rt; "no such record")?),
     }
 }
 
-fn show_of<P: ParseAt + Debug + Drop>(rt: &HostRuntime, row: Row<'_>) -> io::Result<()> {
+fn show_of<P: ParseAt + Debug + Drop>(rt: &HostRuntime, row: Row<'_>) -> Shown {
     let table = ParsingTable::<'_, AnyEndian, P>::new(row.order, row.class, row.data);
     match row.operation {
         "at" => {
             let mut offset = row.n;
             show(rt, P::parse_at(row.order, row.class, &mut offset, row.data))?;
-            print!(rt; " offset {offset}")
+            Ok(print!(rt; " offset {offset}")?)
         }
         "size" => {
             print!(rt; "{}; ", P::size_for(row.class))?;
@@ -96,7 +95,7 @@ pub(crate) fn show_items<E: EndianParse, P: ParseAt + Debug + Drop>(
     rt: &HostRuntime,
     table: &ParsingTable<'_, E, P>,
     most: usize,
-) -> io::Result<()> {
+) -> Shown {
     let length = table.len();
     let is_empty = table.is_empty();
     print!(rt; "{length} empty {is_empty}")?;
@@ -104,35 +103,30 @@ pub(crate) fn show_items<E: EndianParse, P: ParseAt + Debug + Drop>(
 }
 
 /// `parts KIND ORDER CLASS BYTES`: what the methods of the record at the front of the bytes return.
-pub(crate) fn show_parts(rt: &HostRuntime, words: &mut Words<'_>) -> io::Result<()> {
+pub(crate) fn show_parts(rt: &HostRuntime, words: &mut Words<'_>) -> Shown {
     let kind = words.word();
     let order = words.order();
     let class = words.class();
     let data = words.bytes(rt);
     let data = data.as_slice();
     match kind {
-        "Symbol" => match Symbol::parse_at(order, class, &mut 0, data) {
-            Ok(symbol) => {
-                let undefined = symbol.is_undefined();
-                let (kind, bind, vis) = (symbol.st_symtype(), symbol.st_bind(), symbol.st_vis());
-                print!(rt; "undefined {undefined} type {kind} bind {bind} vis {vis}")
-            }
-            Err(error) => show_refusal(rt, error),
-        },
-        "Dyn" => match Dyn::parse_at(order, class, &mut 0, data) {
-            Ok(entry) => {
-                let (tag, value, address) = (entry.d_tag, entry.d_val(), entry.d_ptr());
-                print!(rt; "tag {tag} val {value} ptr {address}")
-            }
-            Err(error) => show_refusal(rt, error),
-        },
-        _ => match VersionIndex::parse_at(order, class, &mut 0, data) {
-            Ok(version) => {
-                let (index, local) = (version.index(), version.is_local());
-                let (global, hidden) = (version.is_global(), version.is_hidden());
-                print!(rt; "index {index} local {local} global {global} hidden {hidden}")
-            }
-            Err(error) => show_refusal(rt, error),
-        },
+        "Symbol" => {
+            let symbol = Symbol::parse_at(order, class, &mut 0, data)?;
+            let undefined = symbol.is_undefined();
+            let (kind, bind, vis) = (symbol.st_symtype(), symbol.st_bind(), symbol.st_vis());
+            print!(rt; "undefined {undefined} type {kind} bind {bind} vis {vis}")?;
+        }
+        "Dyn" => {
+            let entry = Dyn::parse_at(order, class, &mut 0, data)?;
+            let (tag, value, address) = (entry.d_tag, entry.d_val(), entry.d_ptr());
+            print!(rt; "tag {tag} val {value} ptr {address}")?;
+        }
+        _ => {
+            let version = VersionIndex::parse_at(order, class, &mut 0, data)?;
+            let (index, local) = (version.index(), version.is_local());
+            let (global, hidden) = (version.is_global(), version.is_hidden());
+            print!(rt; "index {index} local {local} global {global} hidden {hidden}")?;
+        }
     }
+    Ok(())
 }

@@ -1,10 +1,10 @@
 //! Packed relative relocations.
 use crate::row_words::Words;
+use crate::shown::Shown;
 use elf_dynamic::relr::{RelrIterator, RelrTable};
-use std::io;
 
 /// `relr ORDER CLASS BYTES`: the addresses of the relocations.
-pub(crate) fn show_relr(rt: &HostRuntime, words: &mut Words<'_>) -> io::Result<()> {
+pub(crate) fn show_relr(rt: &HostRuntime, words: &mut Words<'_>) -> Shown {
     let order = words.order();
     let class = words.class();
     let data = words.bytes(rt);

@@ -2,7 +2,7 @@
 use crate::caches::push_parts;
 use crate::row_words::{Words, field_of};
 use crate::rows::bytes_of;
-use crate::shown::text;
+use crate::shown::{Shown, text};
 use elf::abi::EM_X86_64;
 use elf::endian::AnyEndian;
 use elf::file::Class;
@@ -12,14 +12,15 @@ use std::alloc::Global;
 use std::io;
 
 /// `expand ORIGIN LIB PLATFORM TEXT`: the text with these in the place of the sequences.
-pub(crate) fn show_expansion(rt: &HostRuntime, words: &mut Words<'_>) -> io::Result<()> {
+pub(crate) fn show_expansion(rt: &HostRuntime, words: &mut Words<'_>) -> Shown {
     let substitutions = Substitutions {
         origin: words.word().as_bytes(),
         lib: words.word().as_bytes(),
         platform: words.word().as_bytes(),
     };
     let expanded = expansion(rt.alloc(), &substitutions, words.word().as_bytes())?;
-    print!(rt; "{}", text(expanded.as_slice()))
+    print!(rt; "{}", text(expanded.as_slice()))?;
+    Ok(())
 }
 
 /// What a row says of a search: its objects, the one that needs the library first and then those that loaded it, and
@@ -89,9 +90,9 @@ fn show_found(
     objects: &[SearchPaths<'_>],
     surroundings: &Surroundings<'_>,
     name: &str,
-) -> io::Result<()> {
+) -> Shown {
     let Some((object, loaders)) = objects.split_first() else {
-        return print!(rt; "no object");
+        return Ok(print!(rt; "no object")?);
     };
     let found = candidates(rt.alloc(), object, loaders, surroundings, name.as_bytes())?;
     for path in &found {
@@ -103,7 +104,7 @@ fn show_found(
 /// `candidates NAME SET..`: the paths at which a library of this name is looked for, for a 64-bit program of x86-64. A
 /// SET is `object=FOLDER`, with `runpath=`, `rpath=` or `nodeflib` of this object after it, or a field of what belongs
 /// to no object, as `usual=/lib:/usr/lib`.
-pub(crate) fn show_candidates(rt: &HostRuntime, words: &mut Words<'_>) -> io::Result<()> {
+pub(crate) fn show_candidates(rt: &HostRuntime, words: &mut Words<'_>) -> Shown {
     let name = words.word();
     let mut search = Search::new(rt.alloc());
     for set in words.rest() {

@@ -1,5 +1,6 @@
 //! Files beside the program, as sources.
 use crate::row_words::Words;
+use crate::shown::Shown;
 use elf::{FileSource, StreamSource};
 use std::fs::File;
 use std::{fs, io};
@@ -9,14 +10,15 @@ const BUFFER: usize = 1 << 17;
 
 /// `source FILE START`: whether a source over a file beside the program has the length of the file and its bytes from
 /// START on, and whether one read can return more than 65,536 bytes of it; or the error of a read.
-pub(crate) fn show_source(rt: &HostRuntime, words: &mut Words<'_>) -> io::Result<()> {
+pub(crate) fn show_source(rt: &HostRuntime, words: &mut Words<'_>) -> Shown {
     let name = words.word();
     let start = words.number();
     let mut source = FileSource::new(File::open(rt, name)?);
     match read_from(rt, &mut source, start) {
-        Ok(bytes) => show_compared(rt, name, start, &mut source, bytes.as_slice()),
-        Err(error) => print!(rt; "{error}"),
+        Ok(bytes) => show_compared(rt, name, start, &mut source, bytes.as_slice())?,
+        Err(error) => print!(rt; "{error}")?,
     }
+    Ok(())
 }
 
 /// The bytes of a source from a position on.

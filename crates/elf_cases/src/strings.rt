@@ -1,11 +1,10 @@
 //! Tables of strings.
 use crate::row_words::Words;
-use crate::shown::show;
+use crate::shown::{Shown, show};
 use elf::string_table::StringTable;
-use std::io;
 
 /// `string OFFSET BYTES`: the bytes of the string, and its text.
-pub(crate) fn show_string(rt: &HostRuntime, words: &mut Words<'_>) -> io::Result<()> {
+pub(crate) fn show_string(rt: &HostRuntime, words: &mut Words<'_>) -> Shown {
     let offset = words.number();
     let data = words.bytes(rt);
     let strings = StringTable::new(data.as_slice());

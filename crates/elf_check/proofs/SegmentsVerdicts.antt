@@ -3,13 +3,13 @@ use Rattle.std.proofs.Common.{◌≡◌, ◌⊎◌, ℕ, ◌<◌, Bool, true, fa
 use Rattle.std.proofs.lemmas.Option.{slice_get_within}
 use Rattle.std.specs.List.{slice_get}
 use Rattle.std.specs.Option.{IfSome, IsSomeAnd}
-use Rattle.elf_abi.specs.Values.{pt_load, sht_dynamic}
+use Rattle.elf_abi.specs.Values.{pt_load, pt_tls, sht_dynamic}
 use Rattle.elf_records.specs.declared.segment.ProgramHeader.{ProgramHeader}
 use Rattle.elf.specs.Headers.{first_section_of}
 use Rattle.elf.specs.ObjectFile.{ObjectFile}
 use Rattle.elf_check.specs.Notes.{IsNoNote, NotesFill}
 use Rattle.elf_check.specs.Segments.{EndsWithNul, IsRangeOf, LoadsRise, NoneFollows, SoundDynamicSegment, SoundSegment}
-use Rattle.elf_check.specs.Segments.{has_null, memory_end, pt_tls, segment_bytes}
+use Rattle.elf_check.specs.Segments.{has_null, memory_end, segment_bytes}
 use Rattle.elf_check.specs.SegmentsFaults.{IsFirstOverlap, IsFirstPair, IsTrueOfDynamic, IsTrueOfSegment}
 use Rattle.elf_check.specs.declared.segments.faults.SegmentFault.{SegmentFault}
 use Rattle.elf_check.specs.declared.segments.faults.SegmentFault.TheVariants.{EntriesWithoutEnd, FileSize, NoBytes}

@@ -3,18 +3,18 @@ use Rattle.std.proofs.Common.{◌≡◌, Option, Some, None, Result, Ok, Err}
 use Rattle.std.specs.List.{slice_get}
 use Rattle.std.specs.Option.{IfSome, IsSomeAnd, MatchOption}
 use Rattle.std.specs.Result.{IfOk, IsOkAnd, result_ok}
-use Rattle.elf_abi.specs.Values.{pt_dynamic, pt_load}
 use Rattle.elf_records.specs.declared.section.SectionHeader.{SectionHeader}
 use Rattle.elf_reading.specs.Versions.{version_sections}
 use Rattle.elf.specs.Data.{section_data}
 use Rattle.elf.specs.Names.{name_table}
 use Rattle.elf.specs.ObjectFile.{ObjectFile}
 use Rattle.elf_check.specs.AllFaults.{Definitions, Indexes, IsFaultOfSubject, IsTrueByItself, LoadOrder, Needs}
-use Rattle.elf_check.specs.AllFaults.{PhdrFirst, SectionAt, SectionNames, SegmentAt, SingleDynamic, SingleInterp}
-use Rattle.elf_check.specs.AllFaults.{SinglePhdr, SingleTls, SingleType, SoundByItself, SoundSubject, Subject}
+use Rattle.elf_check.specs.AllFaults.{SectionAt, SectionNames, SegmentAt, SingleType, SoundByItself, SoundSubject}
+use Rattle.elf_check.specs.AllFaults.{Subject, Types}
 use Rattle.elf_check.specs.Sections.{IsTrueOfSection, IsTrueOfUnnamed, SoundSection, SoundUnnamed, is_repeated}
-use Rattle.elf_check.specs.Segments.{SoundSegment, pt_interp, pt_phdr, pt_tls}
+use Rattle.elf_check.specs.Segments.{SoundSegment}
 use Rattle.elf_check.specs.SegmentsFaults.{IsTrueOfSegment}
+use Rattle.elf_check.specs.TypeRules.{types_of}
 use Rattle.elf_check.specs.versions.InFile.{IsTrueOfDefs, IsTrueOfIndexSection, IsTrueOfNeeds, SoundDefsOf}
 use Rattle.elf_check.specs.versions.InFile.{SoundIndexSection, SoundNeedsOf}
 use Rattle.elf_check.specs.declared.faults.FileFault.{FileFault}
@@ -62,11 +62,8 @@ true_subject file Indexes fault t sound =
     let chosen = version_sections file.sections in
     both_some (SoundIndexSection file chosen) (λ s. IsTrueOfIndexSection file chosen s t.0) chosen.indexes sound t.2
     (λ s. true_index_section file chosen s t.0)
-true_subject file SingleInterp fault t sound = true_pair pt_interp pt_interp file.segments t.0 t.1 t.3 sound
-true_subject file SingleDynamic fault t sound = true_pair pt_dynamic pt_dynamic file.segments t.0 t.1 t.3 sound
-true_subject file SinglePhdr fault t sound = true_pair pt_phdr pt_phdr file.segments t.0 t.1 t.3 sound
-true_subject file SingleTls fault t sound = true_pair pt_tls pt_tls file.segments t.0 t.1 t.3 sound
-true_subject file PhdrFirst fault t sound = true_pair pt_load pt_phdr file.segments t.0 t.1 t.3 sound
+true_subject file (Types rule) fault t sound =
+    let types = types_of rule in true_pair types.0 types.1 file.segments t.0 t.1 t.3 sound
 true_subject file (SegmentAt i) fault t sound =
     both_some (SoundSegment file) (λ p. (p.p_type ≡ t.0) × IsTrueOfSegment file p t.1) (slice_get file.segments i) sound t.3
     (λ p is not. true_segment file p t.1 not.1 is)

@@ -2,7 +2,7 @@
 use Rattle.std.proofs.Common.{◌≡◌, ◌≢◌, ℕ, ◌%◌, ◌<◌, List, length, Option, Some, None, Result, Ok, Err, IsTrue, refl, ap, ◌∙◌, subst, inl, inr, arith}
 use Rattle.std.specs.Option.{IsSomeAnd}
 use Rattle.std.specs.Result.{IsErr, IsOk, IsOkAnd, result_ok}
-use Rattle.elf_abi.specs.Values.{sht_strtab}
+use Rattle.elf_abi.specs.Values.{shn_loreserve, sht_strtab}
 use Rattle.elf_records.specs.Dynamic.{dyn_reads}
 use Rattle.elf_records.specs.Record.{◌>>=◌, RecordType, size_by}
 use Rattle.elf_records.specs.Relocation.{rel_reads, rela_reads}
@@ -30,7 +30,7 @@ use Rattle.elf_check.specs.Relocations.{SoundRelocations, symbols_to_name}
 use Rattle.elf_check.specs.Sections.{IsTrueOfContent, IsTrueOfSection, SoundContent, SoundSection, section_name}
 use Rattle.elf_check.specs.Strings.{IsEmptyOrEndsWithNul}
 use Rattle.elf_check.specs.Symbols.{IsTrueOfSymbol, IsTrueOfSymbols, SoundSymbol, SoundSymbolTable, SoundSymbols}
-use Rattle.elf_check.specs.Symbols.{holds_symbols, shn_loreserve}
+use Rattle.elf_check.specs.Symbols.{holds_symbols}
 use Rattle.elf_check.specs.declared.faults.DynamicFault.{DynamicFault}
 use Rattle.elf_check.specs.declared.faults.DynamicFault.TheVariants.{NoNull, NoString, NoStrings, PartOfEntry}
 use Rattle.elf_check.specs.declared.faults.DynamicFault.TheVariants.{EntrySize as EntrySizeOfDynamic}

@@ -1,20 +1,21 @@
 -- A fault of versions that is true means that the versions are not sound; and what is read of versions that are.
-use Rattle.std.proofs.Common.{◌≡◌, ◌≢◌, ◌↔◌, ℕ, ◌<◌, ◌≤◌, ◌%◌, ◌^◌, length, Option, Some, None, Result, Ok, Err, MatchOption, refl, ap, sym, ◌∙◌, subst, inl, inr, arith}
+use Rattle.std.proofs.Common.{◌≡◌, ◌≢◌, ◌↔◌, ℕ, ◌<◌, ◌%◌, ◌^◌, Bool, List, length, Option, Some, None, Result, Ok, Err, MatchOption, refl, ap, sym, ◌∙◌, subst, inl, inr, arith}
 use Rattle.std.specs.Option.{IfSome, IsSome, IsSomeAnd}
 use Rattle.std.specs.Result.{IsErr, IsOk, IsOkAnd}
 use Rattle.elf_records.specs.Number.{ok_map}
+use Rattle.elf_records.specs.Record.{record_by}
 use Rattle.elf_records.specs.Symbol.{symbol_reads}
 use Rattle.elf_records.specs.inner.RecordLaws.{ok_map-ok, wherever_by}
+use Rattle.elf_records.specs.declared.file.Class.{Class}
 use Rattle.elf_records.specs.declared.parse.ParseError.{ParseError}
 use Rattle.elf_records.specs.declared.section.SectionHeader.{SectionHeader}
 use Rattle.elf_records.specs.Table.{Table, table_get, table_len}
-use Rattle.elf_parts.specs.gnu_symver.Records.{version_index_layout, version_index_reads}
+use Rattle.elf_parts.specs.gnu_symver.Records.{ver_def_layout, ver_need_layout, version_index_layout}
+use Rattle.elf_parts.specs.gnu_symver.Records.{version_index_reads}
 use Rattle.elf_parts.specs.gnu_symver.Table.{Versions, index_of}
 use Rattle.elf_parts.specs.declared.gnu_symver.records.VersionIndex.{VersionIndex}
-use Rattle.elf_check.specs.Chains.{IsTrueOfChain, total_extent}
 use Rattle.elf_check.specs.versions.Indexes.{IsTrueOfFirst, SoundIndexes, count_with_index}
-use Rattle.elf_check.specs.versions.Records.{SoundDef, SoundDefs, SoundNeed, SoundNeeds, def_extent, def_links}
-use Rattle.elf_check.specs.versions.Records.{need_extent, need_links}
+use Rattle.elf_check.specs.versions.Records.{SoundDef, SoundNeed, def_extent, entry_links, need_extent}
 use Rattle.elf_check.proofs.ChainSteps.{true_chain}
 use Rattle.elf.specs.Answers.{dynamic_symbol_table, symbol_version_table}
 use Rattle.elf.specs.Headers.{if_found}
@@ -23,10 +24,12 @@ use Rattle.elf.specs.Versions.{versions_of}
 use Rattle.elf_reading.specs.Versions.{version_sections}
 use Rattle.elf_reading.specs.declared.versions.VersionSections.{VersionSections}
 use Rattle.elf_check.specs.versions.InFile.{AreAsMany, IsTrueOfDefs, IsTrueOfVersions, IsTrueOfIndexSection}
-use Rattle.elf_check.specs.versions.InFile.{IsTrueOfIndexes}
+use Rattle.elf_check.specs.versions.InFile.{DefsLack, IsTrueOfEntries, IsTrueOfIndexes, NeedsLack, SoundEntriesOf}
 use Rattle.elf_check.specs.versions.InFile.{IsTrueOfNeeds, IsTrueOfVersionsOf, KnowsVersions, SoundDefsOf}
 use Rattle.elf_check.specs.versions.InFile.{SoundIndexSection, SoundIndexesOf, SoundNeedsOf, SoundVersions}
 use Rattle.elf_check.specs.versions.InFile.{SoundVersionsOf, with_strings}
+use Rattle.elf_check.specs.declared.versions.EntriesFault.{EntriesFault}
+use Rattle.elf_check.specs.declared.versions.EntriesFault.TheVariants.{Faulty, TooLong, Unreadable}
 use Rattle.elf_check.specs.declared.faults.VersionsFault.{VersionsFault}
 use Rattle.elf_check.specs.declared.faults.VersionsFault.TheVariants.{AmbiguousIndex, CountOfIndexes, DefinitionsTooLong}
 use Rattle.elf_check.specs.declared.faults.VersionsFault.TheVariants.{DefinitionsUnreadable, FaultyDefinitions}
@@ -93,24 +96,31 @@ not_some P (Ok (Some x)) h = refl
 not_some P (Ok None) h = absurd h
 not_some P (Err e) h = h
 
+module _ {V : Type 0} (record_at : Bool → Class → List ℕ → ℕ → Result V ParseError) (distance extent : V → ℕ) (IsSound : List ℕ → Table → ℕ × V → Type 0) where
+  pub true_entries : (file : ObjectFile) (s : SectionHeader) (fault : EntriesFault) → SoundEntriesOf record_at distance extent IsSound file s → IsTrueOfEntries record_at distance extent IsSound file s fault → ⊥
+  true_entries file s Unreadable sound t = and_not_err _ (with_strings file s) sound t
+  true_entries file s TooLong sound t =
+      both_and _ _ (with_strings file s) sound t (λ found is not. let fit = is.fit in absurd (omega (arith, fit, not)))
+  true_entries file s (Faulty fault) sound t =
+      both_and _ _ (with_strings file s) sound t (λ found is not.
+      true_chain distance (IsSound found.1 (table_of file found.0)) s.sh_info (entry_links record_at distance (table_of file found.0) s.sh_info) fault not.1 is.chain)
+
+pub needs_lack : (file : ObjectFile) (s : SectionHeader) (fault : EntriesFault) → SoundNeedsOf file s → NeedsLack file s fault → ⊥
+needs_lack = true_entries (record_by ver_need_layout) (λ x. x.vn_next) need_extent SoundNeed
+
+pub defs_lack : (file : ObjectFile) (s : SectionHeader) (fault : EntriesFault) → SoundDefsOf file s → DefsLack file s fault → ⊥
+defs_lack = true_entries (record_by ver_def_layout) (λ x. x.vd_next) def_extent SoundDef
+
 pub true_needs : (file : ObjectFile) (s : SectionHeader) (fault : VersionsFault) → SoundNeedsOf file s → IsTrueOfNeeds file s fault → ⊥
-true_needs file s NeedsUnreadable sound t = and_not_err _ (with_strings file s) sound t
-true_needs file s (FaultyNeeds fault) sound t =
-    both_and (λ found. SoundNeeds found.1 (table_of file found.0) s.sh_info) (λ found. (total_extent need_extent (need_links (table_of file found.0) s.sh_info) ≤ length found.0) × IsTrueOfChain (λ x. x.vn_next) (SoundNeed found.1 (table_of file found.0)) s.sh_info (need_links (table_of file found.0) s.sh_info) fault) (with_strings file s) sound t
-    (λ found is not. true_chain (λ x. x.vn_next) (SoundNeed found.1 (table_of file found.0)) s.sh_info (need_links (table_of file found.0) s.sh_info) fault not.1 is.chain)
-true_needs file s NeedsTooLong sound t =
-    both_and (λ found. SoundNeeds found.1 (table_of file found.0) s.sh_info) (λ found. length found.0 < total_extent need_extent (need_links (table_of file found.0) s.sh_info)) (with_strings file s) sound t
-    (λ found is not. let fit = is.fit in absurd (omega (arith, fit, not)))
+true_needs file s NeedsUnreadable sound t = needs_lack file s Unreadable sound t
+true_needs file s NeedsTooLong sound t = needs_lack file s TooLong sound t
+true_needs file s (FaultyNeeds fault) sound t = needs_lack file s (Faulty fault) sound t
 true_needs file s fault sound t = t
 
 pub true_defs : (file : ObjectFile) (s : SectionHeader) (fault : VersionsFault) → SoundDefsOf file s → IsTrueOfDefs file s fault → ⊥
-true_defs file s DefinitionsUnreadable sound t = and_not_err _ (with_strings file s) sound t
-true_defs file s DefinitionsTooLong sound t =
-    both_and (λ found. SoundDefs found.1 (table_of file found.0) s.sh_info) (λ found. length found.0 < total_extent def_extent (def_links (table_of file found.0) s.sh_info)) (with_strings file s) sound t
-    (λ found is not. let fit = is.fit in absurd (omega (arith, fit, not)))
-true_defs file s (FaultyDefinitions fault) sound t =
-    both_and (λ found. SoundDefs found.1 (table_of file found.0) s.sh_info) (λ found. (total_extent def_extent (def_links (table_of file found.0) s.sh_info) ≤ length found.0) × IsTrueOfChain (λ x. x.vd_next) (SoundDef found.1 (table_of file found.0)) s.sh_info (def_links (table_of file found.0) s.sh_info) fault) (with_strings file s) sound t
-    (λ found is not. true_chain (λ x. x.vd_next) (SoundDef found.1 (table_of file found.0)) s.sh_info (def_links (table_of file found.0) s.sh_info) fault not.1 is.chain)
+true_defs file s DefinitionsUnreadable sound t = defs_lack file s Unreadable sound t
+true_defs file s DefinitionsTooLong sound t = defs_lack file s TooLong sound t
+true_defs file s (FaultyDefinitions fault) sound t = defs_lack file s (Faulty fault) sound t
 true_defs file s fault sound t = t
 
 one_here : (v : Versions) (count i : ℕ) (r : Result VersionIndex ParseError) → index_of v i ≡ r → SoundIndexes v → ok_map (count_with_index v) r ≡ Ok count → count ≡ 1

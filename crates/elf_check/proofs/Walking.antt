@@ -13,13 +13,13 @@ use Rattle.elf_check.specs.FaultWalk.{Checking, IsNextFault, unchecked}
 use Rattle.elf_check.specs.Sections.{IsTrueOfSection, IsTrueOfUnnamed, SoundSection, SoundUnnamed}
 use Rattle.elf_check.specs.inner.Walk.{IsFaultIfAny}
 use Rattle.elf_check.specs.Stages.{begun, checked_in, count_of, stage_subjects, subject_of, subjects_in}
-use Rattle.elf_check.specs.versions.InFile.{IsTrueOfDefs, IsTrueOfNeeds, KnowsVersions, SoundDefsOf, SoundNeedsOf}
+use Rattle.elf_check.specs.versions.InFile.{DefsLack, KnowsVersions, NeedsLack, SoundDefsOf, SoundNeedsOf}
 use Rattle.elf_check.specs.declared.walk.Stage.{Stage}
 use Rattle.elf_check.specs.declared.faults.FileFault.{FileFault}
 use Rattle.elf_check.specs.declared.faults.SectionFault.{SectionFault}
-use Rattle.elf_check.specs.declared.faults.VersionsFault.{VersionsFault}
+use Rattle.elf_check.specs.declared.versions.EntriesFault.{EntriesFault}
 use Rattle.elf_check.proofs.TrueSubjects.{true_subject}
-use Rattle.elf_check.proofs.VersionFaults.{both_some, true_defs, true_needs}
+use Rattle.elf_check.proofs.VersionFaults.{both_some, defs_lack, needs_lack}
 
 -- ---- the lesser of a number and a count
 
@@ -241,15 +241,15 @@ own_unnamed file s r None e h = h
 -- ---- the subjects of versions
 
 -- of two faults there is none exactly if it is known which versions there are
-pub known : (file : ObjectFile) (chosen : VersionSections) (d : Option VersionsFault) (b : Bool) → b ≡ is_none d → IfSome chosen.needs (SoundNeedsOf file) → MatchOption d (IfSome chosen.definitions (SoundDefsOf file)) (λ fault. IsSomeAnd chosen.definitions (λ s. IsTrueOfDefs file s fault)) → IsTrue b ↔ KnowsVersions file chosen
+pub known : (file : ObjectFile) (chosen : VersionSections) (d : Option EntriesFault) (b : Bool) → b ≡ is_none d → IfSome chosen.needs (SoundNeedsOf file) → MatchOption d (IfSome chosen.definitions (SoundDefsOf file)) (λ fault. IsSomeAnd chosen.definitions (λ s. DefsLack file s fault)) → IsTrue b ↔ KnowsVersions file chosen
 known file chosen None b e needs definitions = (λ t. (needs, definitions), λ k. e)
 known file chosen (Some fault) b e needs definitions = (
   λ t. absurd (cc (e, t)),
-  λ k. absurd (both_some (SoundDefsOf file) (λ s. IsTrueOfDefs file s fault) chosen.definitions k.1 definitions (λ s. true_defs file s fault)),
+  λ k. absurd (both_some (SoundDefsOf file) (λ s. DefsLack file s fault) chosen.definitions k.1 definitions (λ s. defs_lack file s fault)),
 )
 
-pub unknown : (file : ObjectFile) (chosen : VersionSections) (fault : VersionsFault) (b : Bool) → b ≡ false → IsSomeAnd chosen.needs (λ s. IsTrueOfNeeds file s fault) → IsTrue b ↔ KnowsVersions file chosen
+pub unknown : (file : ObjectFile) (chosen : VersionSections) (fault : EntriesFault) (b : Bool) → b ≡ false → IsSomeAnd chosen.needs (λ s. NeedsLack file s fault) → IsTrue b ↔ KnowsVersions file chosen
 unknown file chosen fault b e needs = (
   λ t. absurd (cc (e, t)),
-  λ k. absurd (both_some (SoundNeedsOf file) (λ s. IsTrueOfNeeds file s fault) chosen.needs k.0 needs (λ s. true_needs file s fault)),
+  λ k. absurd (both_some (SoundNeedsOf file) (λ s. NeedsLack file s fault) chosen.needs k.0 needs (λ s. needs_lack file s fault)),
 )

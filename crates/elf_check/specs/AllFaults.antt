@@ -4,9 +4,7 @@ use Rattle.std.specs.Prelude.{◌≡◌, ◌⊎◌, ◌↔◌, ◌++◌, ⊤, �
 use Rattle.std.specs.Prelude.{MatchOption, IsOk, IsErr, IfOk, IfSome}
 use Rattle.std.specs.Option.{IsSomeAnd}
 use Rattle.std.specs.Result.{IsOkAnd, result_ok}
-use Rattle.elf_abi.specs.Values.{pt_dynamic, pt_load}
 use Rattle.elf_records.specs.declared.section.SectionHeader.{SectionHeader}
-use Rattle.elf_records.specs.declared.segment.ProgramHeader.{ProgramHeader}
 use Rattle.elf_reading.specs.Versions.{version_sections}
 use Rattle.elf_reading.specs.declared.versions.VersionSections.{VersionSections}
 use Rattle.elf.specs.Names.{name_table}
@@ -14,9 +12,10 @@ use Rattle.elf.specs.ObjectFile.{ObjectFile}
 use Rattle.elf_check.specs.Faults.{IsTrueOfFile}
 use Rattle.elf_check.specs.Sections.{IsTrueOfSection, IsTrueOfUnnamed, SoundSection, SoundUnnamed, is_repeated}
 use Rattle.elf_check.specs.Sections.{single_types}
-use Rattle.elf_check.specs.Segments.{AtMostOne, LoadsRise, NoneFollows, SoundSegment, pt_interp, pt_phdr, pt_tls}
+use Rattle.elf_check.specs.Segments.{LoadsRise, NoneFollows, SoundSegment}
 use Rattle.elf_check.specs.SegmentsFaults.{IsFirstOverlap, IsFirstPair, IsTrueOfSegment}
 use Rattle.elf_check.specs.Sound.{SoundFile}
+use Rattle.elf_check.specs.TypeRules.{fault_of, types_of}
 use Rattle.elf_check.specs.versions.InFile.{IsTrueOfDefs, IsTrueOfIndexSection, IsTrueOfNeeds, SoundDefsOf}
 use Rattle.elf_check.specs.versions.InFile.{SoundIndexSection, SoundNeedsOf}
 use Rattle.elf_check.specs.declared.faults.FileFault.{FileFault}
@@ -24,10 +23,10 @@ use Rattle.elf_check.specs.declared.faults.FileFault.TheVariants.{NoNames, Repea
 use Rattle.elf_check.specs.declared.faults.SectionFault.{SectionFault}
 use Rattle.elf_check.specs.declared.faults.VersionsFault.{VersionsFault}
 use Rattle.elf_check.specs.declared.segments.faults.SegmentFault.{SegmentFault}
-use Rattle.elf_check.specs.declared.segments.faults.SegmentsFault.{SegmentsFault}
-use Rattle.elf_check.specs.declared.segments.faults.SegmentsFault.TheVariants.{OverlappingLoad, PhdrAfterLoad}
-use Rattle.elf_check.specs.declared.segments.faults.SegmentsFault.TheVariants.{SecondDynamic, SecondInterp, SecondPhdr}
-use Rattle.elf_check.specs.declared.segments.faults.SegmentsFault.TheVariants.{SecondTls, Segment as OfSegment}
+use Rattle.elf_check.specs.declared.segments.faults.SegmentsFault.TheVariants.{OverlappingLoad, Segment as OfSegment}
+use Rattle.elf_check.specs.declared.segments.faults_in.TypeRule.{TypeRule}
+use Rattle.elf_check.specs.declared.segments.faults_in.TypeRule.TheVariants.{PhdrFirst, SingleDynamic, SingleInterp}
+use Rattle.elf_check.specs.declared.segments.faults_in.TypeRule.TheVariants.{SinglePhdr, SingleTls}
 
 -- ---- the subjects
 
@@ -42,13 +41,9 @@ pub data Subject : Type 0 where
   Needs : Subject
   Definitions : Subject
   Indexes : Subject
-  -- the segments of a type that at most one segment may have
-  SingleInterp : Subject
-  SingleDynamic : Subject
-  SinglePhdr : Subject
-  SingleTls : Subject
+  -- the types of the segments, by a rule: PT_INTERP, PT_DYNAMIC, PT_PHDR and PT_TLS, of which there is one at most, and
   -- PT_PHDR, which is to come before the loaded segments
-  PhdrFirst : Subject
+  Types : TypeRule → Subject
   -- the segment of an index
   SegmentAt : ℕ → Subject
   -- the order of the loaded segments
@@ -67,7 +62,7 @@ abbrev pub version_subjects : List Subject
 version_subjects = Needs ∷ Definitions ∷ Indexes ∷ []
 
 abbrev pub type_subjects : List Subject
-type_subjects = SingleInterp ∷ SingleDynamic ∷ SinglePhdr ∷ SingleTls ∷ PhdrFirst ∷ []
+type_subjects = map Types (SingleInterp ∷ SingleDynamic ∷ SinglePhdr ∷ SingleTls ∷ PhdrFirst ∷ [])
 
 abbrev pub segment_subjects : ObjectFile → List Subject
 segment_subjects file = type_subjects ++ below SegmentAt (length file.segments) ++ (LoadOrder ∷ [])
@@ -92,11 +87,7 @@ SoundSubject file (SectionAt i) = IfOk (file.section_at i) (SoundByItself file)
 SoundSubject file Needs = IfVersions file (λ chosen s. IfSome chosen.needs (SoundNeedsOf file))
 SoundSubject file Definitions = IfVersions file (λ chosen s. IfSome chosen.definitions (SoundDefsOf file))
 SoundSubject file Indexes = IfVersions file (SoundIndexSection file)
-SoundSubject file SingleInterp = AtMostOne pt_interp file.segments
-SoundSubject file SingleDynamic = AtMostOne pt_dynamic file.segments
-SoundSubject file SinglePhdr = AtMostOne pt_phdr file.segments
-SoundSubject file SingleTls = AtMostOne pt_tls file.segments
-SoundSubject file PhdrFirst = NoneFollows pt_load pt_phdr file.segments
+SoundSubject file (Types rule) = let types = types_of rule in NoneFollows types.0 types.1 file.segments
 SoundSubject file (SegmentAt i) = IfSome (slice_get file.segments i) (SoundSegment file)
 SoundSubject file LoadOrder = LoadsRise file.segments
 
@@ -113,11 +104,6 @@ IsVersionsFault file IsTrue fault =
     let chosen = version_sections file.sections in
     (own : VersionsFault) × (fault ≡ Versions own) × IsSomeAnd chosen.indexes (λ s. IsTrue chosen s own)
 
--- a fault of two segments of these types, the first before the second
-abbrev pub IsPairFault : (ℕ → ℕ → SegmentsFault) → ℕ → ℕ → List ProgramHeader → FileFault → Type 0
-IsPairFault pair earlier later segments fault =
-    (first : ℕ) × (index : ℕ) × (fault ≡ Segments (pair first index)) × IsFirstPair earlier later segments first index
-
 abbrev pub IsFaultOfSubject : ObjectFile → Subject → FileFault → Type 0
 IsFaultOfSubject file SectionNames fault = (fault ≡ NoNames) × IsErr (name_table file)
 IsFaultOfSubject file (SingleType t) fault = (fault ≡ Repeated t) × (is_repeated file.sections t ≡ true)
@@ -128,11 +114,10 @@ IsFaultOfSubject file Needs fault =
 IsFaultOfSubject file Definitions fault =
     IsVersionsFault file (λ chosen s own. IsSomeAnd chosen.definitions (λ d. IsTrueOfDefs file d own)) fault
 IsFaultOfSubject file Indexes fault = IsVersionsFault file (IsTrueOfIndexSection file) fault
-IsFaultOfSubject file SingleInterp fault = IsPairFault SecondInterp pt_interp pt_interp file.segments fault
-IsFaultOfSubject file SingleDynamic fault = IsPairFault SecondDynamic pt_dynamic pt_dynamic file.segments fault
-IsFaultOfSubject file SinglePhdr fault = IsPairFault SecondPhdr pt_phdr pt_phdr file.segments fault
-IsFaultOfSubject file SingleTls fault = IsPairFault SecondTls pt_tls pt_tls file.segments fault
-IsFaultOfSubject file PhdrFirst fault = IsPairFault PhdrAfterLoad pt_load pt_phdr file.segments fault
+IsFaultOfSubject file (Types rule) fault =
+    let types = types_of rule in
+    (first : ℕ) × (index : ℕ) × (fault ≡ Segments (fault_of rule first index))
+    × IsFirstPair types.0 types.1 file.segments first index
 IsFaultOfSubject file (SegmentAt i) fault =
     (p_type : ℕ) × (own : SegmentFault) × (fault ≡ Segments (OfSegment i p_type own))
     × IsSomeAnd (slice_get file.segments i) (λ p. (p.p_type ≡ p_type) × IsTrueOfSegment file p own)

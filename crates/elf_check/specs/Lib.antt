@@ -30,6 +30,7 @@ pub mod Verdict
 -- the texts of faults
 pub mod Texts
 -- all faults of a file, and a walk over them
+pub mod TypeRules
 pub mod AllFaults
 pub mod Stages
 pub mod FaultWalk

@@ -4,7 +4,8 @@ use Rattle.std.specs.Prelude.{◌≡◌, ◌≢◌, ℕ, ◌+◌, ◌-◌, ◌%�
 use Rattle.std.specs.Prelude.{true, false, List, [], length, slice_get, Some, Result, Ok, IsOk, IfSome}
 use Rattle.std.specs.List.{list_any}
 use Rattle.std.specs.Result.{IsOkAnd}
-use Rattle.elf_abi.specs.Values.{dt_null, pt_dynamic, pt_load, pt_note, sht_dynamic}
+use Rattle.elf_abi.specs.Values.{dt_null, pt_dynamic, pt_interp, pt_load, pt_note, pt_null, pt_phdr, pt_tls}
+use Rattle.elf_abi.specs.Values.{sht_dynamic}
 use Rattle.elf_records.specs.Class.{address_bits}
 use Rattle.elf_records.specs.Dynamic.{dyn_layout, dyn_reads, has_tag}
 use Rattle.elf_records.specs.Record.{size_by}
@@ -16,20 +17,6 @@ use Rattle.elf.specs.Answers.{segment_data}
 use Rattle.elf.specs.Headers.{first_section_of}
 use Rattle.elf.specs.ObjectFile.{ObjectFile, records_of}
 use Rattle.elf_check.specs.Notes.{NotesFill}
-
--- ---- types of segments
-
-abbrev pub pt_null : ℕ
-pt_null = 0
-
-abbrev pub pt_interp : ℕ
-pt_interp = 3
-
-abbrev pub pt_phdr : ℕ
-pt_phdr = 6
-
-abbrev pub pt_tls : ℕ
-pt_tls = 7
 
 -- ---- the bytes of a segment
 

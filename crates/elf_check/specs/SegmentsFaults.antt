@@ -2,7 +2,7 @@
 use Rattle.std.specs.Prelude.{◌≡◌, ◌≢◌, ◌⊎◌, ℕ, ◌+◌, ◌^◌, ◌<◌, ◌≤◌, true, false, List, slice_get, Some, IsOk, IsErr}
 use Rattle.std.specs.Option.{IsSomeAnd}
 use Rattle.std.specs.Result.{IsOkAnd}
-use Rattle.elf_abi.specs.Values.{pt_dynamic, pt_load, pt_note, sht_dynamic}
+use Rattle.elf_abi.specs.Values.{pt_dynamic, pt_interp, pt_load, pt_note, pt_phdr, pt_tls, sht_dynamic}
 use Rattle.elf_records.specs.Class.{address_bits}
 use Rattle.elf_records.specs.declared.segment.ProgramHeader.{ProgramHeader}
 use Rattle.elf.specs.Headers.{first_section_of}
@@ -10,7 +10,7 @@ use Rattle.elf.specs.ObjectFile.{ObjectFile}
 use Rattle.elf_check.specs.Notes.{IsNoNote}
 use Rattle.elf_check.specs.Segments.{AtMostOne, EachSound, EndsWithNul, FitsMemory, IsRangeOf}
 use Rattle.elf_check.specs.Segments.{IsWhole, LoadsRiseBelow, SoundBelow, SoundTypes, has_null, is_emptied}
-use Rattle.elf_check.specs.Segments.{memory_end, pt_interp, pt_phdr, pt_tls, segment_bytes}
+use Rattle.elf_check.specs.Segments.{memory_end, segment_bytes}
 use Rattle.elf_check.specs.declared.segments.faults.SegmentFault.{SegmentFault}
 use Rattle.elf_check.specs.declared.segments.faults.SegmentFault.TheVariants.{EntriesWithoutEnd, FileSize}
 use Rattle.elf_check.specs.declared.segments.faults.SegmentFault.TheVariants.{NoBytes, NoLastNul, NoNote}

@@ -2,6 +2,7 @@
 use Rattle.std.specs.Prelude.{ℕ, Bool, if◌then◌else◌, List, drop, Option, Some, None, Result, Ok}
 use Rattle.std.specs.declared.cmp.PartialEq.{Ghosts as PartialEqGhosts}
 use Rattle.std.specs.declared.default.Default.{Ghosts as DefaultGhosts}
+use Rattle.elf_abi.specs.Values.{pt_interp}
 use Rattle.elf_records.specs.Number.{ok_map}
 use Rattle.elf_records.specs.Record.{◌>>=◌}
 use Rattle.elf_records.specs.StringTable.{string_at}
@@ -11,7 +12,7 @@ use Rattle.elf_records.specs.declared.segment.ProgramHeader.{ProgramHeader}
 use Rattle.elf.specs.ElfBytes.{view}
 use Rattle.elf.specs.Headers.{first_segment_of}
 use Rattle.elf.specs.ObjectFile.{ObjectFile, object_file}
-use Rattle.elf_check.specs.Segments.{is_emptied, pt_interp, segment_bytes}
+use Rattle.elf_check.specs.Segments.{is_emptied, segment_bytes}
 use Rattle.elf_check.specs.SegmentsBytes.{with_bytes}
 use Rattle.elf_check.specs.declared.segments.iter.WholeSegmentsIter.{WholeSegmentsIter}
 use Rattle.elf_check.specs.declared.segments.whole.WholeSegments.{WholeSegments}
@@ -42,4 +43,4 @@ module _ {E : Type 0} {order : EndianGhosts E} {default : DefaultGhosts E} {equa
   -- the segments that an iterator has left to yield
   abbrev pub segments_left : (E → Bool) → WholeSegmentsIter E order default equal → List (ProgramHeader × List ℕ)
   segments_left little s =
-      let file = object_file little (view s.file.now) in with_bytes file (drop s.next file.segments)
+      let file = segments_file little s.segments in with_bytes file (drop s.next file.segments)

@@ -3,8 +3,8 @@ use Rattle.std.specs.Prelude.{◌++◌, ℕ, List, [], if◌then◌else◌, leng
 use Rattle.std.specs.List.{flat_map}
 use Rattle.elf.specs.ObjectFile.{ObjectFile}
 use Rattle.elf_check.specs.AllFaults.{Subject, below}
-use Rattle.elf_check.specs.AllFaults.{Definitions, Indexes, LoadOrder, Needs, PhdrFirst, SectionAt, SectionNames}
-use Rattle.elf_check.specs.AllFaults.{SegmentAt, SingleDynamic, SingleInterp, SinglePhdr, SingleTls, SingleType}
+use Rattle.elf_check.specs.AllFaults.{Definitions, Indexes, LoadOrder, Needs, SectionAt, SectionNames, SegmentAt}
+use Rattle.elf_check.specs.AllFaults.{SingleType, Types}
 use Rattle.elf_check.specs.declared.walk.Stage.{Stage}
 use Rattle.elf_check.specs.declared.walk.Stage.TheVariants as stage
 
@@ -16,11 +16,7 @@ subject_of stage.Sections i = SectionAt i
 subject_of stage.Needs i = Needs
 subject_of stage.Definitions i = Definitions
 subject_of stage.Indexes i = Indexes
-subject_of stage.SingleInterp i = SingleInterp
-subject_of stage.SingleDynamic i = SingleDynamic
-subject_of stage.SinglePhdr i = SinglePhdr
-subject_of stage.SingleTls i = SingleTls
-subject_of stage.PhdrFirst i = PhdrFirst
+subject_of (stage.Types rule) i = Types rule
 subject_of stage.Segments i = SegmentAt i
 subject_of stage.LoadOrder i = LoadOrder
 

@@ -2,7 +2,7 @@
 use Rattle.std.specs.Prelude.{◌≡◌, ◌≢◌, ◌⊎◌, ℕ, ◌%◌, ◌<◌, ◌≤◌, ◌==◌, ◌||◌, Bool, List, [], length, map, slice_get}
 use Rattle.std.specs.Prelude.{Some, IsOk, IsErr}
 use Rattle.std.specs.Result.{IsOkAnd, result_unwrap_or}
-use Rattle.elf_abi.specs.Values.{sht_dynsym, sht_strtab, sht_symtab}
+use Rattle.elf_abi.specs.Values.{shn_loreserve, sht_dynsym, sht_strtab, sht_symtab}
 use Rattle.elf_records.specs.Record.{size_by}
 use Rattle.elf_records.specs.StringTable.{string_at}
 use Rattle.elf_records.specs.Symbol.{symbol_layout}
@@ -18,10 +18,6 @@ use Rattle.elf_check.specs.declared.faults.SymbolFault.TheVariants.{NoName, NoSe
 use Rattle.elf_check.specs.declared.faults.SymbolsFault.{SymbolsFault}
 use Rattle.elf_check.specs.declared.faults.SymbolsFault.TheVariants.{At, BadLink, LinkedToNoStrings, NoSymbols}
 use Rattle.elf_check.specs.declared.faults.SymbolsFault.TheVariants.{PartOfSymbol}
-
--- section numbers starting at this one are reserved: they name no section
-abbrev pub shn_loreserve : ℕ
-shn_loreserve = 0xff00
 
 -- the name can be read, and the section is one of the file's, unless its number is reserved
 pub record SoundSymbol (sections : ℕ) (strings : List ℕ) (symbol : Symbol) : Type 0 where

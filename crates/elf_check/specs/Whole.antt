@@ -54,4 +54,5 @@ module _ {E : Type 0} {order : EndianGhosts E} {default : DefaultGhosts E} {equa
 
   -- the symbols that an iterator has left to yield
   abbrev pub named_left : WholeSymbolsIter E order default equal → List (Symbol × List ℕ)
-  named_left s = with_names (strings_view s.strings) (drop s.next (table_items symbol_reads (table_view s.symbols)))
+  named_left s =
+      let (symbols, strings) = whole_symbols s.symbols in with_names strings (drop s.next (table_items symbol_reads symbols))

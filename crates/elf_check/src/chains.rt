@@ -25,9 +25,9 @@ pub(crate) trait Checkable: Linked + Drop {
         ensures { IsTrue result ↔ sound (strings_view strings.now) (links_view links.now) (start, self.now) };
 }
 
-/// A linked record that takes bytes for itself and for its auxiliary records.
-pub(crate) trait Extent: Linked + Drop {
-    // How many bytes it takes.
+/// An entry of a version section: a record that declares auxiliary records.
+pub(crate) trait Entry: Checkable {
+    // How many bytes they take.
     ghost extent: { Self → ℕ };
 
     /// How many bytes the auxiliary records that this record declares take.
@@ -36,7 +36,7 @@ pub(crate) trait Extent: Linked + Drop {
 }
 
 // Whether the auxiliary records of these linked records take at most `limit` bytes.
-pub(crate) fn do_fit<E: EndianParse, R: Extent>(links: Links<'_, E, R>, limit: u64) -> bool
+pub(crate) fn do_fit<E: EndianParse, R: Entry>(links: Links<'_, E, R>, limit: u64) -> bool
     ensures { IsTrue result ↔ (total_extent R.extent (links_left R.reads.record_at R.next_distance links.entry) ≤
         limit) }
 {

@@ -247,7 +247,7 @@ pub enum VersionsFault {
     PartOfIndex,
     /// The version indexes cannot be read.
     IndexesUnreadable,
-    /// There are no symbols for dynamic linking.
+    /// There are no dynamic symbols.
     NoDynamicSymbols,
     /// There are not as many version indexes as symbols.
     CountOfIndexes,

@@ -1,9 +1,7 @@
 //! The check of sections.
-ghost use Rattle.std.specs.Prelude.{◌≡◌, ◌⊎◌, ◌↔◌, IsTrue, ◌%◌, MatchOption, Ok, is_ok, length};
+ghost use Rattle.std.specs.Prelude.{◌≡◌, ◌⊎◌, ◌↔◌, IsTrue, MatchOption, Ok, is_ok, length};
 ghost use Rattle.std.specs.Option.{option_map};
 ghost use Rattle.std.specs.Result.{result_ok};
-ghost use Rattle.elf_records.specs.Record.{size_by};
-ghost use Rattle.elf_records.specs.Symbol.{symbol_layout};
 ghost use Rattle.elf.specs.Answers.{symbols_in, symbols_view};
 ghost use Rattle.elf.specs.Data.{content};
 ghost use Rattle.elf.specs.ElfBytes.{view};
@@ -61,14 +59,6 @@ pub(crate) fn symbols_in<'data, E: EndianParse>(
     file.symbols_in(sections).ok()
 }
 
-// Whether the bytes of a section are a whole number of symbols.
-fn is_whole<E: EndianParse>(file: &ElfBytes<'_, E>, shdr: &SectionHeader) -> bool
-    ensures { IsTrue result
-        ↔ (shdr.now.sh_size % size_by symbol_layout (object_file E.little (view file.now)).class ≡ 0) }
-{
-    shdr.sh_size % Symbol::size_for(file.ehdr.class) as u64 == 0
-}
-
 // What a section of symbols lacks.
 fn symbols_fault<E: EndianParse>(
     file: &ElfBytes<'_, E>,
@@ -85,7 +75,7 @@ fn symbols_fault<E: EndianParse>(
     if pair.1.sh_type != abi::SHT_STRTAB {
         return Some(SymbolsFault::LinkedToNoStrings);
     }
-    if !is_whole(file, shdr) {
+    if shdr.sh_size % Symbol::size_for(file.ehdr.class) as u64 != 0 {
         return Some(SymbolsFault::PartOfSymbol);
     }
     let Some((symbols, strings)) = symbols_in(file, &pair) else {

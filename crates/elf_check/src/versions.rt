@@ -1,26 +1,24 @@
 //! The check of versions.
-ghost use Rattle.std.specs.Prelude.{◌≡◌, ◌↔◌, ◌%◌, IsTrue, MatchOption, Some, IfSome};
+ghost use Rattle.std.specs.Prelude.{◌≡◌, ◌↔◌, IsTrue, MatchOption, Some, IfSome};
 ghost use Rattle.std.specs.Option.{IsSomeAnd, option_map};
 ghost use Rattle.std.specs.Result.{result_ok};
-ghost use Rattle.elf_records.specs.Record.{size_by};
 ghost use Rattle.elf_records.specs.StringTable.{strings_view};
-ghost use Rattle.elf_parts.specs.gnu_symver.Records.{version_index_layout};
 ghost use Rattle.elf_parts.specs.gnu_symver.Table.{versions_view};
 ghost use Rattle.elf.specs.ElfBytes.{view};
 ghost use Rattle.elf.specs.ObjectFile.{object_file};
 ghost use Rattle.elf_check.specs.AllFaults.{Definitions, Indexes, Needs};
 ghost use Rattle.elf_check.specs.inner.Walk.{IsFaultIfAny};
-ghost use Rattle.elf_check.specs.versions.InFile.{IsTrueOfDefs, IsTrueOfIndexSection, IsTrueOfIndexes, IsTrueOfNeeds};
-ghost use Rattle.elf_check.specs.versions.InFile.{KnowsVersions, SoundDefsOf, SoundIndexSection, SoundIndexesOf};
-ghost use Rattle.elf_check.specs.versions.InFile.{SoundNeedsOf, with_strings};
+ghost use Rattle.elf_check.specs.versions.InFile.{IsTrueOfEntries, IsTrueOfIndexSection, IsTrueOfIndexes};
+ghost use Rattle.elf_check.specs.versions.InFile.{KnowsVersions, SoundEntriesOf, SoundIndexSection, SoundIndexesOf};
+ghost use Rattle.elf_check.specs.versions.InFile.{with_strings};
 ghost use Rattle.elf_check.specs.Whole.{strings_beside};
 ghost use Rattle.elf_reading.specs.Versions.{version_sections};
 
 mod indexes;
 mod records;
 
-use crate::chains::{chain_fault, do_fit};
-use crate::faults::{FileFault, VersionsFault};
+use crate::chains::{Entry, chain_fault, do_fit};
+use crate::faults::{ChainFault, FileFault, VersionsFault};
 use elf::ElfBytes;
 use elf::endian::EndianParse;
 use elf::gnu_symver::links::Links;
@@ -47,52 +45,32 @@ fn with_strings<'data, E: EndianParse>(
     Some((bytes, StringTable::new(strings)))
 }
 
-// What the section of needs lacks, if there is one.
-fn needs_fault<E: EndianParse>(
-    file: &ElfBytes<'_, E>,
-    shdr: &Option<SectionHeader>,
-) -> Option<VersionsFault>
-    ensures { let whole = object_file E.little (view file.now) in
-        MatchOption result (IfSome shdr.now (SoundNeedsOf whole)) (λ fault. IsSomeAnd shdr.now (λ s. IsTrueOfNeeds
-        whole s fault)) }
-{
-    let Some(shdr) = shdr else {
-        return None;
-    };
-    let Some((bytes, strings)) = with_strings(file, shdr) else {
-        return Some(VersionsFault::NeedsUnreadable);
-    };
-    let count = shdr.sh_info as u64;
-    let links = Links::<E, VerNeed>::new(
-        file.ehdr.endianness.is_little(),
-        file.ehdr.class,
-        count,
-        0,
-        bytes,
-    );
-    if !do_fit(links, bytes.len() as u64) {
-        return Some(VersionsFault::NeedsTooLong);
-    }
-    chain_fault(links, count, &strings).map(VersionsFault::FaultyNeeds)
+// What a section of needs or of definitions lacks.
+#[derive(Copy, Clone)]
+pub(crate) enum EntriesFault {
+    Unreadable,
+    TooLong,
+    Faulty(ChainFault),
 }
 
-// What the section of definitions lacks, if there is one.
-fn definitions_fault<E: EndianParse>(
+// What the section of entries lacks, if there is one.
+fn entries_fault<E: EndianParse, V: Entry>(
     file: &ElfBytes<'_, E>,
     shdr: &Option<SectionHeader>,
-) -> Option<VersionsFault>
+) -> Option<EntriesFault>
     ensures { let whole = object_file E.little (view file.now) in
-        MatchOption result (IfSome shdr.now (SoundDefsOf whole)) (λ fault. IsSomeAnd shdr.now (λ s. IsTrueOfDefs
-        whole s fault)) }
+        MatchOption result (IfSome shdr.now (SoundEntriesOf V.reads.record_at V.next_distance V.extent V.sound whole))
+        (λ fault. IsSomeAnd shdr.now (λ s. IsTrueOfEntries V.reads.record_at V.next_distance V.extent V.sound whole s
+        fault)) }
 {
     let Some(shdr) = shdr else {
         return None;
     };
     let Some((bytes, strings)) = with_strings(file, shdr) else {
-        return Some(VersionsFault::DefinitionsUnreadable);
+        return Some(EntriesFault::Unreadable);
     };
     let count = shdr.sh_info as u64;
-    let links = Links::<E, VerDef>::new(
+    let links = Links::<E, V>::new(
         file.ehdr.endianness.is_little(),
         file.ehdr.class,
         count,
@@ -100,9 +78,9 @@ fn definitions_fault<E: EndianParse>(
         bytes,
     );
     if !do_fit(links, bytes.len() as u64) {
-        return Some(VersionsFault::DefinitionsTooLong);
+        return Some(EntriesFault::TooLong);
     }
-    chain_fault(links, count, &strings).map(VersionsFault::FaultyDefinitions)
+    chain_fault(links, count, &strings).map(EntriesFault::Faulty)
 }
 
 // What the version indexes lack. A version whose index has a place is looked up without a walk.
@@ -128,21 +106,13 @@ fn indexes_fault<'data, E: EndianParse>(
     first_fault(&versions, count)
 }
 
-// Whether the bytes of a section are a whole number of version indexes.
-fn is_whole<E: EndianParse>(file: &ElfBytes<'_, E>, shdr: &SectionHeader) -> bool
-    ensures { IsTrue result
-        ↔ (shdr.now.sh_size % size_by version_index_layout (object_file E.little (view file.now)).class ≡ 0) }
-{
-    shdr.sh_size % VersionIndex::size_for(file.ehdr.class) as u64 == 0
-}
-
 // Whether it is known which versions there are.
 fn knows_versions<E: EndianParse>(file: &ElfBytes<'_, E>, chosen: &VersionSections) -> bool
     ensures { IsTrue result ↔ KnowsVersions (object_file E.little (view file.now)) chosen.now }
 {
-    match needs_fault(file, &chosen.needs) {
+    match entries_fault::<E, VerNeed>(file, &chosen.needs) {
         Some(_) => false,
-        None => definitions_fault(file, &chosen.definitions).is_none(),
+        None => entries_fault::<E, VerDef>(file, &chosen.definitions).is_none(),
     }
 }
 
@@ -160,7 +130,7 @@ fn index_section_fault<'data, E: EndianParse>(
         MatchOption result (SoundIndexSection whole chosen.now shdr.now) (IsTrueOfIndexSection whole chosen.now
         shdr.now) }
 {
-    if !is_whole(file, shdr) {
+    if shdr.sh_size % VersionIndex::size_for(file.ehdr.class) as u64 != 0 {
         return Some(VersionsFault::PartOfIndex);
     }
     if !knows_versions(file, chosen) {
@@ -177,10 +147,13 @@ pub(crate) fn needs_fault_in<E: EndianParse>(file: &ElfBytes<'_, E>) -> Option<F
     ensures { IsFaultIfAny (object_file E.little (view file.now)) Needs result }
 {
     let chosen = file.version_sections();
-    match &chosen.indexes {
-        Some(_) => needs_fault(file, &chosen.needs).map(FileFault::Versions),
-        None => None,
-    }
+    chosen.indexes.as_ref()?;
+    let fault = match entries_fault::<E, VerNeed>(file, &chosen.needs)? {
+        EntriesFault::Unreadable => VersionsFault::NeedsUnreadable,
+        EntriesFault::TooLong => VersionsFault::NeedsTooLong,
+        EntriesFault::Faulty(fault) => VersionsFault::FaultyNeeds(fault),
+    };
+    Some(FileFault::Versions(fault))
 }
 
 // The fault of the definitions.
@@ -188,10 +161,13 @@ pub(crate) fn definitions_fault_in<E: EndianParse>(file: &ElfBytes<'_, E>) -> Op
     ensures { IsFaultIfAny (object_file E.little (view file.now)) Definitions result }
 {
     let chosen = file.version_sections();
-    match &chosen.indexes {
-        Some(_) => definitions_fault(file, &chosen.definitions).map(FileFault::Versions),
-        None => None,
-    }
+    chosen.indexes.as_ref()?;
+    let fault = match entries_fault::<E, VerDef>(file, &chosen.definitions)? {
+        EntriesFault::Unreadable => VersionsFault::DefinitionsUnreadable,
+        EntriesFault::TooLong => VersionsFault::DefinitionsTooLong,
+        EntriesFault::Faulty(fault) => VersionsFault::FaultyDefinitions(fault),
+    };
+    Some(FileFault::Versions(fault))
 }
 
 // The fault of the version indexes.

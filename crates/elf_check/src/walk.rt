@@ -11,6 +11,7 @@ ghost use Rattle.elf_check.specs.inner.Walk.{IsFaultIfAny};
 
 use crate::faults::FileFault;
 use crate::sections::{Names, names_fault, names_in, section_count, section_fault_at};
+use crate::segments::faults_in::TypeRule;
 use crate::segments::{faults_in as segments, segment_count};
 use crate::types::type_fault;
 use crate::versions::{definitions_fault_in, indexes_fault_in, needs_fault_in};
@@ -29,11 +30,7 @@ pub(crate) enum Stage {
     Needs,
     Definitions,
     Indexes,
-    SingleInterp,
-    SingleDynamic,
-    SinglePhdr,
-    SingleTls,
-    PhdrFirst,
+    Types(TypeRule),
     Segments,
     LoadOrder,
 }
@@ -51,11 +48,11 @@ pub(crate) const OF_FILE: [Stage; 18] = [
     Stage::Needs,
     Stage::Definitions,
     Stage::Indexes,
-    Stage::SingleInterp,
-    Stage::SingleDynamic,
-    Stage::SinglePhdr,
-    Stage::SingleTls,
-    Stage::PhdrFirst,
+    Stage::Types(TypeRule::SingleInterp),
+    Stage::Types(TypeRule::SingleDynamic),
+    Stage::Types(TypeRule::SinglePhdr),
+    Stage::Types(TypeRule::SingleTls),
+    Stage::Types(TypeRule::PhdrFirst),
     Stage::Segments,
     Stage::LoadOrder,
 ];
@@ -124,11 +121,7 @@ impl<'a, 'data, E: EndianParse> Walk<'a, 'data, E> {
             Stage::Needs => needs_fault_in(self.file),
             Stage::Definitions => definitions_fault_in(self.file),
             Stage::Indexes => indexes_fault_in(self.file, needed, defined),
-            Stage::SingleInterp => segments::second_interp(self.file),
-            Stage::SingleDynamic => segments::second_dynamic(self.file),
-            Stage::SinglePhdr => segments::second_phdr(self.file),
-            Stage::SingleTls => segments::second_tls(self.file),
-            Stage::PhdrFirst => segments::phdr_after_load(self.file),
+            Stage::Types(rule) => segments::types_fault(self.file, rule),
             Stage::Segments => segments::segment_fault_at(self.file, &self.dynamic, index),
             Stage::LoadOrder => segments::overlap_fault(self.file),
         }

@@ -109,7 +109,7 @@ impl<'a, 'data, E: EndianParse> WholeFile<'a, 'data, E> {
         self.first_symbols(self.file.symbol_table().unwrap())
     }
 
-    /// The symbols for dynamic linking, those of the first section of type `SHT_DYNSYM`, or `None` exactly if there is
+    /// The dynamic symbols, those of the first section of type `SHT_DYNSYM`, or `None` exactly if there is
     /// no such section.
     pub fn dynamic_symbols(&self) -> Option<WholeSymbols<'data, E>>
         ensures { dynamic_symbol_table (whole_view E.little self.now) ≡ Ok (option_map whole_symbols result) }

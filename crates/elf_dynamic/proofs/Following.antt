@@ -1,6 +1,8 @@
 -- What is read of a partly loaded file is that of the whole file, or a range is missing.
+use Rattle.std.specs.Prelude.{max}
 use Rattle.std.proofs.Common.{◌≡◌, ℕ, ℤ, Bool, true, false, List, inl, inr, Option, Some, None, Result, Ok, Err, refl, ap, ◌∙◌, if◌then◌else◌}
 use Rattle.std.specs.Option.{option_map}
+use Rattle.elf_abi.specs.Values.{dt_gnu_hash, dt_hash, dt_jmprel, dt_pltrel, dt_pltrelsz, dt_rel, dt_rela, dt_relaent, dt_relasz, dt_relent, dt_relr, dt_relrent, dt_relrsz, dt_relsz, dt_syment, dt_symtab, dt_verdef, dt_verdefnum, dt_verneed, dt_verneednum, dt_versym}
 use Rattle.elf_parts.specs.gnu_symver.Lists.{ver_defs, ver_needs}
 use Rattle.elf_parts.specs.gnu_symver.Records.{version_index_layout}
 use Rattle.elf_records.specs.Class.{address_size}
@@ -12,24 +14,24 @@ use Rattle.elf_records.specs.Table.{Table}
 use Rattle.elf_records.specs.declared.dynamic.Dyn.{Dyn}
 use Rattle.elf_records.specs.declared.parse.ParseError.{ParseError}
 use Rattle.elf_records.specs.declared.segment.ProgramHeader.{ProgramHeader}
-use Rattle.elf.specs.Answers.{segment_dynamic}
+use Rattle.elf.specs.Answers.{dynamic_symbol_table, segment_dynamic, symbol_version_table}
 use Rattle.elf.specs.Headers.{first_segment_of, if_found}
 use Rattle.elf.specs.ObjectFile.{FileOf, ObjectFile, Partial, Whole, err_map, records_of, table_of}
 use Rattle.elf.specs.Parts.{ArePartOf, Follows, Ranges, loaded}
+use Rattle.elf.specs.Readers.{DynamicSymbolTable, SymbolVersionTable}
 use Rattle.elf.specs.declared.read_error.ReadError.{ReadError}
 use Rattle.elf.specs.declared.read_error.ReadError.TheVariants.{NotLoaded, Parse}
-use Rattle.elf.proofs.Partly.{follows_found, follows_map}
+use Rattle.elf.proofs.Partly.{follows_found, follows_map, part_follows}
 use Rattle.elf_dynamic.specs.declared.dynamic_view.error.DynamicError.{DynamicError}
 use Rattle.elf_dynamic.specs.declared.dynamic_view.error.DynamicError.TheVariants.{Missing, UnknownKind}
-use Rattle.elf_dynamic.specs.Linked.{Sections, linked_by, place_of}
+use Rattle.elf_dynamic.specs.Linked.{Entries, Nothing, Place, Sections, linked_by, place_of, symbols_by, versions_by}
 use Rattle.elf_dynamic.specs.dynamic_view.Entries.{dynamic_table, entry_size, read_error, required, value_of}
 use Rattle.elf_dynamic.specs.dynamic_view.Hashes.{gnu_at, gnu_count, gnu_from, sysv_at, sysv_header, sysv_size}
 use Rattle.elf_dynamic.specs.dynamic_view.Laws.{FollowsBy, FollowsWhole, ViewFollows}
-use Rattle.elf_dynamic.specs.dynamic_view.Relocations.{PltList, Rels, Relas, is_kind, plt_at, plt_of, plt_relocations, table_at, table_bytes}
+use Rattle.elf_dynamic.specs.dynamic_view.Relocations.{PltList, Rels, Relas, count_all, count_named, is_kind, plt_at, plt_of, plt_relocations, relas, relocations, rels, table_at, table_bytes}
 use Rattle.elf_dynamic.specs.dynamic_view.Segments.{bytes_from, bytes_of, part_of, range_of, records_part, rest_of}
 use Rattle.elf_dynamic.specs.dynamic_view.Strings.{string_part, strings}
-use Rattle.elf_dynamic.specs.dynamic_view.Symbols.{count_by, count_by_gnu, known_count, symbol_count, symbol_part, symbols, symbols_with_strings}
-use Rattle.elf_dynamic.specs.dynamic_view.Tags.{dt_gnu_hash, dt_hash, dt_jmprel, dt_pltrel, dt_pltrelsz, dt_rel, dt_rela, dt_relaent, dt_relasz, dt_relent, dt_relr, dt_relrent, dt_relrsz, dt_relsz, dt_symtab, dt_syment, dt_verdef, dt_verdefnum, dt_verneed, dt_verneednum, dt_versym}
+use Rattle.elf_dynamic.specs.dynamic_view.Symbols.{count_by, count_by_gnu, known_count, or_none, symbol_count, symbol_part, symbols, symbols_with_strings, total_count}
 use Rattle.elf_dynamic.specs.dynamic_view.Versions.{indexes_at, version_definitions, version_entries, version_indexes, version_needs, versions, versions_of}
 
 module _ {E : Type 0} (missing : ℕ × ℕ → E) (is_missing : ℕ × ℕ → Bool) where
@@ -118,22 +120,6 @@ module _ (whole : ObjectFile) (range : Ranges) (is_missing : ℕ × ℕ → Bool
   known_follows : (es : List Dyn) → ViewFollows is_missing (known_count whole es) (known_count part es)
   known_follows es = then_follows Missing is_missing (symbol_count whole es) (symbol_count part es) _ _ (count_follows es) (λ _. inl refl)
 
-  symbol_part_follows : (es : List Dyn) → ViewFollows is_missing (symbol_part whole es) (symbol_part part es)
-  symbol_part_follows es =
-      same_then Missing is_missing (required dt_symtab es) _ _ (λ a. same_then Missing is_missing (entry_size dt_syment (size_by symbol_layout whole.class) es) _ _ (λ size.
-      then_follows Missing is_missing (known_count whole es) (known_count part es) _ _ (known_follows es) (λ _. inl refl)))
-
-  table_of_follows : (p : ℕ × ℕ) → ViewFollows is_missing (ok_map (table_of whole) (range_of whole p)) (ok_map (table_of part) (range_of part p))
-  table_of_follows p = map_follows Missing is_missing (table_of whole) (range_of whole p) (range_of part p) (range_follows p)
-
-  symbols_follow : (es : List Dyn) → ViewFollows is_missing (symbols whole es) (symbols part es)
-  symbols_follow es = then_follows Missing is_missing (symbol_part whole es) (symbol_part part es) _ _ (symbol_part_follows es) table_of_follows
-
-  with_strings_follow : (es : List Dyn) → ViewFollows is_missing (symbols_with_strings whole es) (symbols_with_strings part es)
-  with_strings_follow es =
-      then_follows Missing is_missing (symbols whole es) (symbols part es) _ _ (symbols_follow es) (λ table.
-      then_follows Missing is_missing (strings whole es) (strings part es) _ _ (strings_follow es) (λ names. inl refl))
-
   sized_follows : (address size entry : ℤ) (n : ℕ) (es : List Dyn) → ViewFollows is_missing (table_bytes whole address size entry n es) (table_bytes part address size entry n es)
   sized_follows address size entry n es =
       found_follows Missing is_missing (table_at whole size entry n es) (table_at part size entry n es) (value_of address es) (λ a.
@@ -156,9 +142,49 @@ module _ (whole : ObjectFile) (range : Ranges) (is_missing : ℕ × ℕ → Bool
   plt_follows es = found_follows Missing is_missing (plt_at whole es) (plt_at part es) (value_of dt_jmprel es) (λ a.
       same_then Missing is_missing (required dt_pltrelsz es) _ _ (λ size. same_then Missing is_missing (required dt_pltrel es) _ _ (λ kind. plt_of_follows kind a size)))
 
+  rels_follow : (es : List Dyn) → ViewFollows is_missing (rels whole es) (rels part es)
+  rels_follow es = map_follows Missing is_missing (option_map (records_of rel_reads whole)) _ _ (sized_follows dt_rel dt_relsz dt_relent (size_by rel_layout whole.class) es)
+
+  relas_follow : (es : List Dyn) → ViewFollows is_missing (relas whole es) (relas part es)
+  relas_follow es = map_follows Missing is_missing (option_map (records_of rela_reads whole)) _ _ (sized_follows dt_rela dt_relasz dt_relaent (size_by rela_layout whole.class) es)
+
+  relocations_follow : (es : List Dyn) → ViewFollows is_missing (relocations whole es) (relocations part es)
+  relocations_follow es =
+      then_follows Missing is_missing (rels whole es) (rels part es) _ _ (rels_follow es) (λ r.
+      then_follows Missing is_missing (relas whole es) (relas part es) _ _ (relas_follow es) (λ a.
+      then_follows Missing is_missing (plt_relocations whole es) (plt_relocations part es) _ _ (plt_follows es) (λ p. inl refl)))
+
+  named_follows : (es : List Dyn) → ViewFollows is_missing (count_named whole es) (count_named part es)
+  named_follows es = map_follows Missing is_missing count_all (relocations whole es) (relocations part es) (relocations_follow es)
+
+  or_none_follows : (one other : Result ℕ DynamicError) → ViewFollows is_missing one other → ViewFollows is_missing (or_none one) (or_none other)
+  or_none_follows one other (inl h) = inl (ap or_none h)
+  or_none_follows one other (inr h) = inr (h.0, h.1, ap or_none h.2)
+
+  total_follows : (es : List Dyn) → ViewFollows is_missing (total_count whole es) (total_count part es)
+  total_follows es =
+      then_follows Missing is_missing (known_count whole es) (known_count part es) _ _ (known_follows es) (λ counted.
+      map_follows Missing is_missing (max counted) (or_none (count_named whole es)) (or_none (count_named part es)) (or_none_follows (count_named whole es) (count_named part es) (named_follows es)))
+
+  symbol_part_follows : (es : List Dyn) → ViewFollows is_missing (symbol_part whole es) (symbol_part part es)
+  symbol_part_follows es =
+      same_then Missing is_missing (required dt_symtab es) _ _ (λ a. same_then Missing is_missing (entry_size dt_syment (size_by symbol_layout whole.class) es) _ _ (λ size.
+      then_follows Missing is_missing (total_count whole es) (total_count part es) _ _ (total_follows es) (λ _. inl refl)))
+
+  table_of_follows : (p : ℕ × ℕ) → ViewFollows is_missing (ok_map (table_of whole) (range_of whole p)) (ok_map (table_of part) (range_of part p))
+  table_of_follows p = map_follows Missing is_missing (table_of whole) (range_of whole p) (range_of part p) (range_follows p)
+
+  symbols_follow : (es : List Dyn) → ViewFollows is_missing (symbols whole es) (symbols part es)
+  symbols_follow es = then_follows Missing is_missing (symbol_part whole es) (symbol_part part es) _ _ (symbol_part_follows es) table_of_follows
+
+  with_strings_follow : (es : List Dyn) → ViewFollows is_missing (symbols_with_strings whole es) (symbols_with_strings part es)
+  with_strings_follow es =
+      then_follows Missing is_missing (symbols whole es) (symbols part es) _ _ (symbols_follow es) (λ table.
+      then_follows Missing is_missing (strings whole es) (strings part es) _ _ (strings_follow es) (λ names. inl refl))
+
   indexes_follow : (es : List Dyn) → ViewFollows is_missing (version_indexes whole es) (version_indexes part es)
   indexes_follow es = found_follows Missing is_missing (indexes_at whole es) (indexes_at part es) (value_of dt_versym es) (λ a.
-      then_follows Missing is_missing (known_count whole es) (known_count part es) _ _ (known_follows es) (λ count.
+      then_follows Missing is_missing (total_count whole es) (total_count part es) _ _ (total_follows es) (λ count.
       same_then Missing is_missing (records_part whole.segments a count (size_by version_index_layout whole.class)) _ _ table_of_follows))
 
   entries_follow : {V A : Type 0} (from : Table → ℕ → ℕ → List (V × List A)) (tag : ℤ) (es : List Dyn) (a : ℕ) → ViewFollows is_missing (version_entries from whole tag es a) (version_entries from part tag es a)
@@ -180,10 +206,27 @@ module _ (whole : ObjectFile) (range : Ranges) (is_missing : ℕ × ℕ → Bool
       then_follows Missing is_missing (version_needs whole es) (version_needs part es) _ _ (needs_follow es) (λ needs.
       then_follows Missing is_missing (version_definitions whole es) (version_definitions part es) _ _ (definitions_follow es) (λ definitions. inl refl))))
 
+  -- ---- what links
+
+  read : {A : Type 0} (x : Result A ParseError) (y : Result A ReadError) → Follows is_missing x y → ViewFollows is_missing (err_map (read_error Whole) x) (err_map (read_error Partial) y)
+  read x y follows = read_follows is_missing (read_error Whole) (read_error Partial) (λ e. refl) x y follows
+
+  symbols_by_follow : (p : Place) → ViewFollows is_missing (symbols_by whole p) (symbols_by part p)
+  symbols_by_follow Sections = read (dynamic_symbol_table whole) (dynamic_symbol_table part) (part_follows whole range is_missing each DynamicSymbolTable)
+  symbols_by_follow (Entries es) = map_follows Missing is_missing Some (symbols_with_strings whole es) (symbols_with_strings part es) (with_strings_follow es)
+  symbols_by_follow Nothing = inl refl
+
+  versions_by_follow : (p : Place) → ViewFollows is_missing (versions_by whole p) (versions_by part p)
+  versions_by_follow Sections = read (symbol_version_table whole) (symbol_version_table part) (part_follows whole range is_missing each SymbolVersionTable)
+  versions_by_follow (Entries es) = versions_follow es
+  versions_by_follow Nothing = inl refl
+
   pub all_follow : FollowsWhole is_missing whole part
   all_follow = record {
     table = table_follows;
     linked = linked_follows;
+    linked_symbols = then_follows Missing is_missing (linked_by whole) (linked_by part) _ _ linked_follows symbols_by_follow;
+    linked_versions = then_follows Missing is_missing (linked_by whole) (linked_by part) _ _ linked_follows versions_by_follow;
     bytes_of = bytes_follow;
     bytes_from = rest_follows;
     strings = strings_follow;
@@ -192,10 +235,11 @@ module _ (whole : ObjectFile) (range : Ranges) (is_missing : ℕ × ℕ → Bool
     symbols_with_strings = with_strings_follow;
     sysv_hash = λ es. found_follows Missing is_missing (sysv_at whole) (sysv_at part) (value_of dt_hash es) sysv_follows;
     gnu_hash = λ es. found_follows Missing is_missing (gnu_at whole) (gnu_at part) (value_of dt_gnu_hash es) gnu_at_follows;
-    rels = λ es. map_follows Missing is_missing (option_map (records_of rel_reads whole)) _ _ (sized_follows dt_rel dt_relsz dt_relent (size_by rel_layout whole.class) es);
-    relas = λ es. map_follows Missing is_missing (option_map (records_of rela_reads whole)) _ _ (sized_follows dt_rela dt_relasz dt_relaent (size_by rela_layout whole.class) es);
+    rels = rels_follow;
+    relas = relas_follow;
     relr_bytes = λ es. sized_follows dt_relr dt_relrsz dt_relrent (address_size whole.class) es;
     plt = plt_follows;
+    relocations = relocations_follow;
     indexes = indexes_follow;
     needs = needs_follow;
     definitions = definitions_follow;

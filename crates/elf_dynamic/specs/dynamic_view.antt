@@ -1,10 +1,9 @@
 -- In the order in which they are read.
-pub mod Tags
 pub mod Entries
 pub mod Segments
 pub mod Strings
 pub mod Hashes
-pub mod Symbols
 pub mod Relocations
+pub mod Symbols
 pub mod Versions
 pub mod Laws

@@ -1,5 +1,5 @@
 -- The small GNU sections with a fault.
-use Rattle.std.proofs.Common.{◌≡◌, ℕ, ◌%◌, refl, lit≤, arith}
+use Rattle.std.proofs.Common.{◌≡◌, ◌%◌, refl, lit≤, arith}
 use Rattle.elf_parts.specs.GnuFind.{GnuTable}
 use Rattle.elf_hash_check.proofs.GnuVerdicts.{true_fault}
 use Rattle.elf_hash_check.specs.Faults.{IsTrueOfGnu}

@@ -2,7 +2,6 @@
 use Rattle.std.proofs.Common.{◌≡◌, ℕ, List, [], ◌∷◌, Option, MatchOption, Some, None, refl, ap, sym, ◌∙◌, inl, inr}
 use Rattle.std.specs.Option.{IsSomeAnd}
 use Rattle.std.specs.Result.{result_ok}
-use Rattle.elf_abi.specs.Values.{pt_dynamic, pt_load}
 use Rattle.elf_records.specs.declared.section.SectionHeader.{SectionHeader}
 use Rattle.elf_hash_check.specs.Object.{IsFirstOfObject, Object}
 use Rattle.elf_hash_check.specs.declared.hashcheck.HashFault.{HashFault}
@@ -10,19 +9,16 @@ use Rattle.elf_reading.specs.Versions.{version_sections}
 use Rattle.elf.specs.Names.{name_table}
 use Rattle.elf.specs.ObjectFile.{ObjectFile}
 use Rattle.elf_check.specs.AllFaults.{AreFaults, Definitions, Indexes, IsFaultOfSubject, IsTrueByItself, LoadOrder}
-use Rattle.elf_check.specs.AllFaults.{Needs, PhdrFirst, SectionAt, SectionNames, SegmentAt, SingleDynamic, SingleInterp}
-use Rattle.elf_check.specs.AllFaults.{SinglePhdr, SingleTls, SingleType, Subject}
+use Rattle.elf_check.specs.AllFaults.{Needs, SectionAt, SectionNames, SegmentAt, SingleType, Subject, Types}
 use Rattle.elf_check.specs.Sections.{IsTrueOfSection, IsTrueOfUnnamed}
-use Rattle.elf_check.specs.Segments.{pt_interp, pt_phdr, pt_tls}
 use Rattle.elf_check.specs.SegmentsFaults.{IsFirstOverlap, IsFirstPair}
+use Rattle.elf_check.specs.TypeRules.{fault_of, types_of}
 use Rattle.elf_check.specs.versions.InFile.{IsTrueOfIndexSection}
 use Rattle.elf_check.specs.declared.faults.FileFault.{FileFault}
 use Rattle.elf_check.specs.declared.faults.FileFault.TheVariants.{Section, Segments, Versions}
 use Rattle.elf_check.specs.declared.faults.VersionsFault.{VersionsFault}
 use Rattle.elf_check.specs.declared.segments.faults.SegmentsFault.{SegmentsFault}
-use Rattle.elf_check.specs.declared.segments.faults.SegmentsFault.TheVariants.{OverlappingLoad, PhdrAfterLoad}
-use Rattle.elf_check.specs.declared.segments.faults.SegmentsFault.TheVariants.{SecondDynamic, SecondInterp, SecondPhdr}
-use Rattle.elf_check.specs.declared.segments.faults.SegmentsFault.TheVariants.{SecondTls}
+use Rattle.elf_check.specs.declared.segments.faults.SegmentsFault.TheVariants.{OverlappingLoad}
 use Rattle.elf_laws.proofs.Once.{IsOnce, both, both_some, one_made}
 use Rattle.elf_laws.proofs.OneOfSection.{one_section_fault, one_unnamed_fault}
 use Rattle.elf_laws.proofs.OneOfSegments.{one_here, one_of_pair, one_overlap, one_pair}
@@ -73,11 +69,8 @@ module _ (file : ObjectFile) (one_first : (object : Object) (one other : HashFau
   one_subject Indexes one other x y =
       let chosen = version_sections file.sections in
       one_made Versions (OfVersions (λ s own. IsTrueOfIndexSection file chosen s own)) (one_of_versions (λ s own. IsTrueOfIndexSection file chosen s own) (λ s. one_section_of_indexes file chosen s)) one other x y
-  one_subject SingleInterp one other x y = one_couple SecondInterp pt_interp pt_interp one other x y
-  one_subject SingleDynamic one other x y = one_couple SecondDynamic pt_dynamic pt_dynamic one other x y
-  one_subject SinglePhdr one other x y = one_couple SecondPhdr pt_phdr pt_phdr one other x y
-  one_subject SingleTls one other x y = one_couple SecondTls pt_tls pt_tls one other x y
-  one_subject PhdrFirst one other x y = one_couple PhdrAfterLoad pt_load pt_phdr one other x y
+  one_subject (Types rule) one other x y =
+      let types = types_of rule in one_couple (fault_of rule) types.0 types.1 one other x y
   one_subject (SegmentAt i) one other (t, f, d, x) (u, g, e, y) = d ∙ ap Segments (one_here file i t u f g x y) ∙ sym e
   one_subject LoadOrder one other x y =
       one_of_pair (λ i j. Segments (OverlappingLoad i j)) (IsFirstOverlap file.segments) (one_overlap file.segments) one other x y

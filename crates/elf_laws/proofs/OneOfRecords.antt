@@ -2,7 +2,7 @@
 use Rattle.std.proofs.Common.{◌≡◌, ◌≢◌, ℕ, ◌%◌, ◌<◌, List, length, None, refl, ap, sym, ◌∙◌, subst, inl, inr, arith}
 use Rattle.std.specs.Option.{IsSomeAnd}
 use Rattle.std.specs.Result.{IsOk, IsOkAnd}
-use Rattle.elf_abi.specs.Values.{sht_strtab}
+use Rattle.elf_abi.specs.Values.{shn_loreserve, sht_strtab}
 use Rattle.elf_records.specs.Record.{RecordType}
 use Rattle.elf_records.specs.StringTable.{string_at}
 use Rattle.elf_records.specs.Table.{Table, table_get}
@@ -15,7 +15,7 @@ use Rattle.elf.specs.ObjectFile.{ObjectFile, table_of}
 use Rattle.elf_check.specs.Members.{IsFirstFault}
 use Rattle.elf_check.specs.Relocations.{IsTrueOfRelocations, IsTrueOfTable, NamesNone, symbols_to_name}
 use Rattle.elf_check.specs.Symbols.{IsFirstOfTable, IsTrueOfSymbol, IsTrueOfSymbols, IsWhole, LinksToStrings}
-use Rattle.elf_check.specs.Symbols.{SoundSymbol, shn_loreserve}
+use Rattle.elf_check.specs.Symbols.{SoundSymbol}
 use Rattle.elf_check.specs.declared.faults.RelocationsFault.{RelocationsFault}
 use Rattle.elf_check.specs.declared.faults.RelocationsFault.TheVariants.{EntrySize, NoLink, NoSymbol, PartOfRelocation}
 use Rattle.elf_check.specs.declared.faults.SymbolFault.{SymbolFault}

@@ -2,11 +2,11 @@
 use Rattle.std.proofs.Common.{◌≡◌, ◌⊎◌, ℕ, ◌≤◌, Bool, true, false, List, refl, ap, sym, ◌∙◌, inl, inr, arith, lit≤}
 use Rattle.std.specs.Prelude.{◌==◌, if◌then◌else◌}
 use Rattle.std.specs.Result.{IsOk, IsOkAnd}
-use Rattle.elf_abi.specs.Values.{pt_load, pt_note}
+use Rattle.elf_abi.specs.Values.{pt_interp, pt_load, pt_note, pt_tls}
 use Rattle.elf_records.specs.declared.segment.ProgramHeader.{ProgramHeader}
 use Rattle.elf.specs.ObjectFile.{ObjectFile}
 use Rattle.elf_check.specs.Notes.{IsNoNote}
-use Rattle.elf_check.specs.Segments.{EndsWithNul, FitsMemory, IsWhole, has_null, pt_interp, pt_tls, segment_bytes}
+use Rattle.elf_check.specs.Segments.{EndsWithNul, FitsMemory, IsWhole, has_null, segment_bytes}
 use Rattle.elf_check.specs.SegmentsFaults.{IsTrueOfSegment}
 use Rattle.elf_check.specs.declared.segments.faults.SegmentFault.{SegmentFault}
 use Rattle.elf_check.specs.declared.segments.faults.SegmentFault.TheVariants.{EntriesWithoutEnd, FileSize, NoBytes}

@@ -3,10 +3,10 @@ use Rattle.std.proofs.Common.{◌≡◌, ℕ, ◌+◌, ◌<◌, List, refl, ap, 
 use Rattle.std.proofs.lemmas.Option.{slice_get_within}
 use Rattle.std.specs.List.{slice_get}
 use Rattle.std.specs.Option.{IsSomeAnd}
-use Rattle.elf_abi.specs.Values.{pt_dynamic, pt_load}
+use Rattle.elf_abi.specs.Values.{pt_dynamic, pt_interp, pt_load, pt_phdr, pt_tls}
 use Rattle.elf_records.specs.declared.segment.ProgramHeader.{ProgramHeader}
 use Rattle.elf.specs.ObjectFile.{ObjectFile}
-use Rattle.elf_check.specs.Segments.{AtMostOne, EachSound, NoneFollows, memory_end, pt_interp, pt_phdr, pt_tls}
+use Rattle.elf_check.specs.Segments.{AtMostOne, EachSound, NoneFollows, memory_end}
 use Rattle.elf_check.specs.SegmentsFaults.{IsFirstFrom, IsFirstOverlap, IsFirstPair, IsFirstUnsound, IsTrueOfSegment}
 use Rattle.elf_check.specs.SegmentsFaults.{IsTrueOfSegments}
 use Rattle.elf_check.specs.declared.segments.faults.SegmentFault.{SegmentFault}

@@ -47,7 +47,7 @@ abbrev pub hash_type : HashKind → ℕ
 hash_type Sysv = sht_hash
 hash_type Gnu = sht_gnu_hash
 
--- a hash section of a kind, which is linked to symbols for dynamic linking
+-- a hash section of a kind, which is linked to dynamic symbols
 abbrev pub IsHashSection : HashKind → ObjectFile → SectionHeader → Type 0
 IsHashSection kind file s =
     (s.sh_type ≡ hash_type kind) × IsOkAnd (file.section_at s.sh_link) (λ linked. linked.sh_type ≡ sht_dynsym)

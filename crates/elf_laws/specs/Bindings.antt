@@ -43,7 +43,7 @@ kind_and_section (Some gnu) sysv = Some (Gnu, gnu)
 kind_and_section None (Some sysv) = Some (Sysv, sysv)
 kind_and_section None None = None
 
--- it is linked to symbols for dynamic linking, if there is one
+-- it is linked to dynamic symbols, if there is one
 abbrev pub LooksUpDynamic : ObjectFile → Type 0
 LooksUpDynamic file =
     IfSome (kind_and_section (first_section_of sht_gnu_hash file.sections) (first_section_of sht_hash file.sections))

@@ -83,7 +83,7 @@ fn versions_are_answered<E: EndianParse>(file: &WholeFile<'_, '_, E>)
 /// its symbols.
 ///
 /// `IsFitting` says what a call is to name. A segment is to have bytes in the file; a hash section is to be linked to
-/// symbols for dynamic linking, since the calls `sysv` and `gnu` check it for these.
+/// dynamic symbols, since the calls `sysv` and `gnu` check it for these.
 pub fn calls_are_answered<E: EndianParse>(file: &WholeFile<'_, '_, E>)
     ensures { let whole = whole_view E.little file.now in
         (header : IsFileHeader E) (call : Question) → IsFitting whole call → IsAnswered header whole call }
@@ -129,7 +129,7 @@ pub fn references_bind<E: EndianParse, V: SymbolVersions<E>>(objects: &[Versione
 {}
 
 /// Returns the object that a file that was checked is in a look-up, as `versioned_object` does, or `None` exactly if the
-/// file has no hash section. There is no error if that hash section is linked to symbols for dynamic linking
+/// file has no hash section. There is no error if that hash section is linked to dynamic symbols
 /// (`LooksUpDynamic`), and `references_bind` is true of the object.
 pub fn checked_object<'data, E: EndianParse>(
     file: &WholeFile<'_, 'data, E>,

@@ -5,8 +5,8 @@ use Rattle.std.specs.Prelude.{List, [], ◌∷◌, codes, drop, position, slice_
 use Rattle.std.specs.List.{find, list_any, starts_with}
 use Rattle.std.specs.Result.{result_ok}
 use Rattle.std.specs.Str.{bytes_eq}
-use Rattle.elf_abi.specs.declared.abi.TheConstants.{EM_AARCH64, EM_ARM, EM_IA_64, EM_LOONGARCH, EM_MIPS, EM_PPC64}
-use Rattle.elf_abi.specs.declared.abi.TheConstants.{EM_RISCV, EM_S390, EM_SPARCV9, EM_X86_64}
+use Rattle.elf_abi.specs.Values.{em_aarch64, em_arm, em_ia_64, em_loongarch, em_mips, em_ppc64, em_riscv, em_s390}
+use Rattle.elf_abi.specs.Values.{em_sparcv9, em_x86_64}
 use Rattle.elf_records.specs.Number.{bytes_at, number_at, ok_map}
 use Rattle.elf_records.specs.Record.{◌>>=◌, Field, field, Layout, RecordType, numbers_at}
 use Rattle.elf_records.specs.StringTable.{string_at}
@@ -209,21 +209,21 @@ elf_libc6 = 0x0003
 -- FLAG_X8664_LIB64, with FLAG_ELF_LIBC6
 abbrev pub flags_of_64 : ℕ → List ℕ
 flags_of_64 machine =
-    if machine == EM_SPARCV9 then 0x0103 ∷ []
-    else if machine == EM_IA_64 then 0x0203 ∷ []
-    else if machine == EM_X86_64 then 0x0303 ∷ []
-    else if machine == EM_S390 then 0x0403 ∷ []
-    else if machine == EM_PPC64 then 0x0503 ∷ []
-    else if machine == EM_MIPS then 0x0703 ∷ []
-    else if machine == EM_AARCH64 then 0x0a03 ∷ []
-    else if machine == EM_RISCV then 0x1003 ∷ []
-    else if machine == EM_LOONGARCH then 0x1203 ∷ []
+    if machine == em_sparcv9 then 0x0103 ∷ []
+    else if machine == em_ia_64 then 0x0203 ∷ []
+    else if machine == em_x86_64 then 0x0303 ∷ []
+    else if machine == em_s390 then 0x0403 ∷ []
+    else if machine == em_ppc64 then 0x0503 ∷ []
+    else if machine == em_mips then 0x0703 ∷ []
+    else if machine == em_aarch64 then 0x0a03 ∷ []
+    else if machine == em_riscv then 0x1003 ∷ []
+    else if machine == em_loongarch then 0x1203 ∷ []
     else elf_libc6 ∷ elf ∷ []
 
 abbrev pub flags_of_32 : ℕ → List ℕ
 flags_of_32 machine =
-    if machine == EM_X86_64 then 0x0803 ∷ []
-    else if machine == EM_ARM then 0x0903 ∷ elf_libc6 ∷ []
+    if machine == em_x86_64 then 0x0803 ∷ []
+    else if machine == em_arm then 0x0903 ∷ elf_libc6 ∷ []
     else elf_libc6 ∷ elf ∷ []
 
 abbrev pub flags_of : ℕ → Class → List ℕ

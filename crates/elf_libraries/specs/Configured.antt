@@ -63,7 +63,7 @@ abbrev pub with_folder : List ℕ → Lists → Lists
 with_folder path lists =
     if is_listed lists.folders path then lists else record lists { folders = lists.folders ++ path ∷ [] }
 
--- a file that was read is passed over, and so is any other one once there are 1000
+-- a file that was read is skipped, and so is any other one once there are 1000
 abbrev pub is_passed : List ℕ → Lists → Bool
 is_passed path lists = nat_le 1000 (length lists.read) || is_listed lists.read path
 

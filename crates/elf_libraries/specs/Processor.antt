@@ -5,7 +5,7 @@ use Rattle.std.specs.Prelude.{ℕ, ◌==◌, not, Bool, false, if◌then◌else�
 use Rattle.std.specs.List.{find, list_all, list_any, slice_split, starts_with}
 use Rattle.std.specs.Option.{option_map}
 use Rattle.std.specs.Str.{bytes_eq}
-use Rattle.elf_abi.specs.declared.abi.TheConstants.{EM_X86_64}
+use Rattle.elf_abi.specs.Values.{em_x86_64}
 use Rattle.elf_records.specs.declared.file.Class.{Class}
 use Rattle.elf_records.specs.declared.file.Class.TheVariants.{ELF32, ELF64}
 use Rattle.elf_libraries.specs.declared.tree.Kind.{Kind}
@@ -68,7 +68,7 @@ level_if (Some text) = level_of (features_in text)
 
 -- only for 64-bit programs of x86-64: the subfolders of other machines are not known here
 abbrev pub has_levels : Class → ℕ → Bool
-has_levels ELF64 machine = machine == EM_X86_64
+has_levels ELF64 machine = machine == em_x86_64
 has_levels ELF32 machine = false
 
 abbrev pub level_for : (List ℕ → Option (List ℕ)) → Kind → Level

@@ -112,7 +112,7 @@ with_identity identity found = record found { identity = identity }
 abbrev pub opened_names : (List ℕ → Option (List ℕ)) → List ℕ → Option Found
 opened_names files path = option_map without_bytes (opened_whole files path)
 
--- a file that cannot be loaded beside those of this kind is passed over
+-- a file that cannot be loaded beside those of this kind is skipped
 abbrev pub fitting : Kind → Option Found → Option Found
 fitting kind None = None
 fitting kind (Some found) = if same_kind found.kind kind then Some found else None

@@ -1,7 +1,7 @@
 -- The folders in which the dynamic linker of glibc looks for libraries that no search path names: those of Debian for
 -- the machine, then those of other systems.
 use Rattle.std.specs.Prelude.{ℕ, ◌==◌, if◌then◌else◌, List, [], ◌∷◌, codes, drop, slice_get, unwrap_or}
-use Rattle.elf_abi.specs.declared.abi.TheConstants.{EM_386, EM_AARCH64, EM_ARM, EM_PPC64, EM_RISCV, EM_S390, EM_X86_64}
+use Rattle.elf_abi.specs.Values.{em_386, em_aarch64, em_arm, em_ppc64, em_riscv, em_s390, em_x86_64}
 use Rattle.elf_records.specs.declared.endian.AnyEndian.{AnyEndian}
 use Rattle.elf_records.specs.declared.endian.AnyEndian.TheVariants.{Big, Little}
 use Rattle.elf_records.specs.declared.file.Class.{Class}
@@ -114,18 +114,18 @@ folders_of_ppc64 Big = others_64
 
 abbrev pub folders_of_64 : AnyEndian → ℕ → List (List ℕ)
 folders_of_64 order machine =
-    if machine == EM_X86_64 then x86_64
-    else if machine == EM_AARCH64 then aarch64
-    else if machine == EM_RISCV then riscv64
-    else if machine == EM_PPC64 then folders_of_ppc64 order
-    else if machine == EM_S390 then s390x
+    if machine == em_x86_64 then x86_64
+    else if machine == em_aarch64 then aarch64
+    else if machine == em_riscv then riscv64
+    else if machine == em_ppc64 then folders_of_ppc64 order
+    else if machine == em_s390 then s390x
     else others_64
 
 abbrev pub folders_of_32 : ℕ → List (List ℕ)
 folders_of_32 machine =
-    if machine == EM_X86_64 then x32
-    else if machine == EM_386 then i386
-    else if machine == EM_ARM then arm
+    if machine == em_x86_64 then x32
+    else if machine == em_386 then i386
+    else if machine == em_arm then arm
     else others_32
 
 abbrev pub folders_by : Class → AnyEndian → ℕ → List (List ℕ)
@@ -144,9 +144,9 @@ lib_of kind = drop 1 (unwrap_or (slice_get (usual_folders kind) 0) [])
 -- the name of the machine, where the processor does not matter
 abbrev pub platform_by : ℕ → List ℕ
 platform_by machine =
-    if machine == EM_X86_64 then codes "x86_64"
-    else if machine == EM_386 then codes "i686"
-    else if machine == EM_AARCH64 then codes "aarch64"
+    if machine == em_x86_64 then codes "x86_64"
+    else if machine == em_386 then codes "i686"
+    else if machine == em_aarch64 then codes "aarch64"
     else []
 
 abbrev pub platform_of : Kind → List ℕ

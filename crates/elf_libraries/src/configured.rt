@@ -28,7 +28,7 @@ const CONFIGURATION: &[u8] = b"/etc/ld.so.conf";
 const MOST_FILES: usize = 1000;
 
 /// What is still to be read or listed.
-#[derive(Debug, Drop)]
+#[derive(Drop)]
 pub(crate) enum Pending {
     /// A folder of libraries.
     Folder(Vec<u8>),
@@ -39,7 +39,7 @@ pub(crate) enum Pending {
 }
 
 /// What is still to be read or listed, the next one last, the files that were read, and the folders.
-#[derive(Debug, Drop)]
+#[derive(Drop)]
 pub(crate) struct Listing {
     pending: Vec<Pending>,
     read: Paths,

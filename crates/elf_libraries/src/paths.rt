@@ -9,7 +9,7 @@ use std::collections::BTreeSet;
 use std::marker::Model;
 
 /// Paths in order, each once, and a set of the same.
-#[derive(Debug, Drop)]
+#[derive(Drop)]
 pub(crate) struct Paths {
     list: Vec<Vec<u8>>,
     set: BTreeSet<Vec<u8>>,

@@ -11,7 +11,7 @@ use elf_records::slices::{first_of, rest_of};
 use std::alloc::{AllocError, Global};
 
 // An element of a pattern.
-#[derive(Debug, Clone, Copy)]
+#[derive(Clone, Copy)]
 enum Element<'a> {
     // `*`: any bytes, or none.
     Run,
@@ -24,7 +24,7 @@ enum Element<'a> {
 }
 
 // The first element of a pattern, and the number of bytes that it takes.
-#[derive(Debug, Clone, Copy)]
+#[derive(Clone, Copy)]
 struct FirstElement<'a> {
     element: Element<'a>,
     length: usize,

@@ -6,7 +6,7 @@
 //! libraries that an object names by `DT_FILTER` or `DT_AUXILIARY`, its filtees, before the object itself.
 //!
 //! Each library is searched for at the paths of `search::candidates`. The first file there is loaded that is an ELF file of
-//! the program's class, byte order and machine; others are passed over, even those at which the dynamic linker stops. Where
+//! the program's class, byte order and machine; others are skipped, even those at which the dynamic linker stops. Where
 //! its section headers cannot be read, a file is read through its segments, as the dynamic linker reads all files. Two
 //! paths lead to one file if they are the same, or if the files of the system tell so (`Identity`).
 ghost use Rattle.std.specs.Prelude.{◌≡◌, ◌<◌, ◌++◌, ◌∷◌, [], ℕ, List, Some, None, length, map};
@@ -132,7 +132,7 @@ pub struct LoadOrder {
 }
 
 // An object in the order of look-ups: its place among the objects, and whether its libraries were loaded.
-#[derive(Debug, Clone, Copy)]
+#[derive(Clone, Copy)]
 struct Slot {
     place: usize,
     is_done: bool,

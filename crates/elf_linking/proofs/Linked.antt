@@ -1,45 +1,40 @@
 -- What is looked up and bound of a partly loaded file is that of the whole file, or a range is missing.
-use Rattle.std.proofs.Common.{◌≡◌, ℕ, ◌-◌, ◌*◌, ◌^◌, ◌==◌, ◌&&◌, ◌||◌, Bool, List, [], ◌∷◌, inl, Option, Some, None, Result, Ok, Err, refl, sym, ap, subst, nat_le, nat_lt, if◌then◌else◌}
-use Rattle.elf_abi.specs.Values.{sht_dynsym, sht_gnu_hash, sht_hash, sht_rel, sht_rela}
+use Rattle.std.proofs.Common.{◌≡◌, ℕ, ◌-◌, ◌==◌, ◌&&◌, ◌||◌, Bool, List, [], ◌∷◌, inl, Option, Some, None, Result, Ok, Err, refl, sym, ap, subst, nat_lt, if◌then◌else◌}
+use Rattle.elf_abi.specs.Values.{dt_gnu_hash, dt_hash, sht_dynsym, sht_gnu_hash, sht_hash, sht_rel, sht_rela}
 use Rattle.elf_records.specs.Number.{ok_map}
-use Rattle.elf_records.specs.Record.{◌>>=◌, size_by}
+use Rattle.elf_records.specs.Record.{◌>>=◌}
 use Rattle.elf_records.specs.Relocation.{fields_of_rel, fields_of_rela}
-use Rattle.elf_records.specs.Symbol.{symbol_layout, symbol_reads}
-use Rattle.elf_records.specs.Table.{Table, table_len}
 use Rattle.elf_records.specs.declared.dynamic.Dyn.{Dyn}
 use Rattle.elf_records.specs.declared.parse.ParseError.{ParseError}
 use Rattle.elf_records.specs.declared.section.SectionHeader.{SectionHeader}
 use Rattle.elf_parts.specs.GnuFind.{GnuTable}
-use Rattle.elf.specs.Answers.{dynamic_symbol_table, section_data_as_relas, section_data_as_rels, symbol_version_table}
+use Rattle.elf.specs.Answers.{section_data_as_relas, section_data_as_rels}
 use Rattle.elf.specs.Data.{section_data}
 use Rattle.elf.specs.Headers.{first_section_of, if_found}
-use Rattle.elf.specs.ObjectFile.{FileOf, ObjectFile, Partial, Whole, err_map, table_of}
+use Rattle.elf.specs.ObjectFile.{FileOf, ObjectFile, Partial, Whole, err_map}
 use Rattle.elf.specs.Parts.{ArePartOf, Follows, Ranges, loaded}
-use Rattle.elf.specs.Readers.{DynamicSymbolTable, SectionData, SectionDataAsRelas, SectionDataAsRels, SymbolVersionTable}
+use Rattle.elf.specs.Readers.{SectionData, SectionDataAsRelas, SectionDataAsRels}
 use Rattle.elf.specs.declared.read_error.ReadError.{ReadError}
 use Rattle.elf.specs.declared.read_error.ReadError.TheVariants.{Parse}
 use Rattle.elf_hash_check.specs.declared.hashcheck.any.HashKind.{HashKind}
 use Rattle.elf_hash_check.specs.declared.hashcheck.any.HashKind.TheVariants.{Gnu, Sysv}
 use Rattle.elf.proofs.Partly.{follows_if, follows_map, part_follows}
 use Rattle.elf_dynamic.specs.declared.dynamic_view.error.DynamicError.{DynamicError}
-use Rattle.elf_dynamic.specs.declared.dynamic_view.error.DynamicError.TheVariants.{Missing, NotLoaded}
+use Rattle.elf_dynamic.specs.declared.dynamic_view.error.DynamicError.TheVariants.{Missing}
 use Rattle.elf_dynamic.specs.Linked.{Entries, Nothing, Place, Sections, linked_by}
 use Rattle.elf_dynamic.specs.dynamic_view.Entries.{required, value_of}
 use Rattle.elf_dynamic.specs.dynamic_view.Hashes.{gnu_hash}
-use Rattle.elf_dynamic.specs.dynamic_view.Relocations.{plt_relocations, relas, rels}
+use Rattle.elf_dynamic.specs.dynamic_view.Relocations.{all_parts, relocations}
 use Rattle.elf_dynamic.specs.dynamic_view.Segments.{bytes_from}
-use Rattle.elf_dynamic.specs.dynamic_view.Strings.{strings}
-use Rattle.elf_dynamic.specs.dynamic_view.Symbols.{symbols as counted_symbols}
-use Rattle.elf_dynamic.specs.dynamic_view.Tags.{dt_gnu_hash, dt_hash, dt_symtab, dt_versym}
-use Rattle.elf_dynamic.specs.dynamic_view.Versions.{version_definitions, version_needs}
+use Rattle.elf_dynamic.specs.dynamic_view.Versions.{versions}
 use Rattle.elf_dynamic.proofs.Following.{all_follow, found_follows, if_follows, map_follows, read_follows, said_follows, same_then, then_follows}
-use Rattle.elf_linking.specs.BySegments.{count_all, count_named, gnu_bytes, gnu_size, relocations, sized_bytes, symbols, symbols_at, symbols_up_to, symbols_with_strings, sysv_at, uses_by_all, versions, versions_at}
+use Rattle.elf_linking.specs.BySegments.{gnu_bytes, gnu_size, sysv_at, uses_by_all}
 use Rattle.elf_linking.specs.BySegments.{hash_by as table_hash, hash_section as segment_hash}
-use Rattle.elf_linking.specs.DynamicFile.{dynamic_symbols, dynamic_uses, dynamic_versions, hash_by, hash_in, hash_of, hash_parts, hash_section, or_dynamic, section_hash, symbols_by, uses_found, versions_by, with_symbols}
+use Rattle.elf_linking.specs.DynamicFile.{dynamic_symbols, dynamic_uses, dynamic_versions, hash_by, hash_in, hash_of, hash_parts, hash_section, section_hash, uses_found, with_symbols}
 use Rattle.elf_dynamic.specs.dynamic_view.Laws.{FollowsBy, FollowsWhole}
 use Rattle.elf_linking.specs.Following.{LinksFollow, object_missing, uses_missing}
 use Rattle.elf_linking.specs.ObjectTable.{HashBytes, object_fault, or_fault, or_no_symbols}
-use Rattle.elf_linking.specs.SymbolUses.{all_parts, has_type, is_dynamic, section_uses, sections_uses, uses_after, uses_fault}
+use Rattle.elf_linking.specs.SymbolUses.{has_type, is_dynamic, section_uses, sections_uses, uses_after, uses_fault}
 use Rattle.elf_linking.specs.declared.bindings.uses.SymbolUses.{SymbolUses}
 use Rattle.elf_linking.specs.declared.bindings.uses.UsesError.TheVariants.{Dynamic as Unknown, TooLarge}
 use Rattle.elf_linking.specs.declared.resolve.ObjectFault.TheVariants.{Dynamic}
@@ -52,43 +47,6 @@ module _ (whole : ObjectFile) (range : Ranges) (is_missing : ℕ × ℕ → Bool
 
   view : FollowsWhole is_missing whole part
   view = all_follow whole range is_missing each
-
-  relocations_follow : (es : List Dyn) → FollowsBy Missing is_missing (relocations whole es) (relocations part es)
-  relocations_follow es =
-      then_follows Missing is_missing (rels whole es) (rels part es) _ _ (view.rels es) (λ r.
-      then_follows Missing is_missing (relas whole es) (relas part es) _ _ (view.relas es) (λ a.
-      then_follows Missing is_missing (plt_relocations whole es) (plt_relocations part es) _ _ (view.plt es) (λ p. inl refl)))
-
-  sized_follows : (a count size : ℕ) → FollowsBy Missing is_missing (sized_bytes whole a count size) (sized_bytes part a count size)
-  sized_follows a count size = if_follows Missing is_missing (nat_le (2 ^ 64) (count * size)) (Err (NotLoaded a)) (Err (NotLoaded a)) _ _ (inl refl) (view.bytes_of a (count * size))
-
-  at_follow : (es : List Dyn) (count : ℕ) → FollowsBy Missing is_missing (symbols_at whole es count) (symbols_at part es count)
-  at_follow es count = same_then Missing is_missing (required dt_symtab es) _ _ (λ a. map_follows Missing is_missing (table_of whole) _ _ (sized_follows a count (size_by symbol_layout whole.class)))
-
-  count_follows : (es : List Dyn) → FollowsBy Missing is_missing (count_named whole es) (count_named part es)
-  count_follows es = map_follows Missing is_missing count_all (relocations whole es) (relocations part es) (relocations_follow es)
-
-  up_to_follow : (es : List Dyn) (counted : Table) (count : ℕ) → FollowsBy Missing is_missing (symbols_up_to whole es counted count) (symbols_up_to part es counted count)
-  up_to_follow es counted count = if_follows Missing is_missing (nat_le count (table_len symbol_reads counted)) (Ok counted) (Ok counted) _ _ (inl refl) (at_follow es count)
-
-  all_symbols_follow : (es : List Dyn) → FollowsBy Missing is_missing (symbols whole es) (symbols part es)
-  all_symbols_follow es =
-      then_follows Missing is_missing (counted_symbols whole es) (counted_symbols part es) _ _ (view.symbols es) (λ counted.
-      then_follows Missing is_missing (count_named whole es) (count_named part es) _ _ (count_follows es) (up_to_follow es counted))
-
-  with_strings : (es : List Dyn) → FollowsBy Missing is_missing (symbols_with_strings whole es) (symbols_with_strings part es)
-  with_strings es =
-      then_follows Missing is_missing (symbols whole es) (symbols part es) _ _ (all_symbols_follow es) (λ table.
-      then_follows Missing is_missing (strings whole es) (strings part es) _ _ (view.strings es) (λ names. inl refl))
-
-  versions_at_follow : (es : List Dyn) (a : ℕ) → FollowsBy Missing is_missing (versions_at whole es a) (versions_at part es a)
-  versions_at_follow es a =
-      then_follows Missing is_missing (bytes_from whole a) (bytes_from part a) _ _ (view.bytes_from a) (λ indexes.
-      then_follows Missing is_missing (version_needs whole es) (version_needs part es) _ _ (view.needs es) (λ needs.
-      then_follows Missing is_missing (version_definitions whole es) (version_definitions part es) _ _ (view.definitions es) (λ definitions. inl refl)))
-
-  entry_versions_follow : (es : List Dyn) → FollowsBy Missing is_missing (versions whole es) (versions part es)
-  entry_versions_follow es = found_follows Missing is_missing (versions_at whole es) (versions_at part es) (value_of dt_versym es) (versions_at_follow es)
 
   table_hash_follows : (es : List Dyn) (gnu : Option GnuTable) → FollowsBy Missing is_missing (table_hash whole es gnu) (table_hash part es gnu)
   table_hash_follows es (Some t) = map_follows Missing is_missing _ (gnu_bytes whole es t) (gnu_bytes part es t) (same_then Missing is_missing (required dt_gnu_hash es) _ _ (λ a. view.bytes_of a (gnu_size whole.class t)))
@@ -111,15 +69,8 @@ module _ (whole : ObjectFile) (range : Ranges) (is_missing : ℕ × ℕ → Bool
 
   -- ---- the symbols
 
-  symbols_by_follow : (p : Place) → FollowsBy object_missing is_missing (symbols_by whole p) (symbols_by part p)
-  symbols_by_follow Sections = read (dynamic_symbol_table whole) (dynamic_symbol_table part) (part_follows whole range is_missing each DynamicSymbolTable)
-  symbols_by_follow (Entries es) =
-      map_follows object_missing is_missing Some (or_dynamic (symbols_with_strings whole es)) (or_dynamic (symbols_with_strings part es))
-      (said_follows Missing is_missing Dynamic (symbols_with_strings whole es) (symbols_with_strings part es) (with_strings es))
-  symbols_by_follow Nothing = inl refl
-
   symbols_follow : FollowsBy object_missing is_missing (dynamic_symbols whole) (dynamic_symbols part)
-  symbols_follow = placed_follows Dynamic (symbols_by whole) (symbols_by part) symbols_by_follow
+  symbols_follow = said_follows Missing is_missing Dynamic _ _ view.linked_symbols
 
   -- ---- the hash section
 
@@ -148,13 +99,8 @@ module _ (whole : ObjectFile) (range : Ranges) (is_missing : ℕ × ℕ → Bool
 
   -- ---- the versions
 
-  versions_by_follow : (p : Place) → FollowsBy object_missing is_missing (versions_by whole p) (versions_by part p)
-  versions_by_follow Sections = read (symbol_version_table whole) (symbol_version_table part) (part_follows whole range is_missing each SymbolVersionTable)
-  versions_by_follow (Entries es) = said_follows Missing is_missing Dynamic (versions whole es) (versions part es) (entry_versions_follow es)
-  versions_by_follow Nothing = inl refl
-
   versions_follow : FollowsBy object_missing is_missing (dynamic_versions whole) (dynamic_versions part)
-  versions_follow = placed_follows Dynamic (versions_by whole) (versions_by part) versions_by_follow
+  versions_follow = said_follows Missing is_missing Dynamic _ _ view.linked_versions
 
   -- ---- the uses of symbols
 
@@ -189,7 +135,7 @@ module _ (whole : ObjectFile) (range : Ranges) (is_missing : ℕ × ℕ → Bool
   uses_found_follow machine uses Sections = sections_follow machine whole.size whole.sections uses
   uses_found_follow machine uses (Entries es) =
       said_follows Missing is_missing Unknown (ok_map (uses_by_all machine uses) (relocations whole es)) (ok_map (uses_by_all machine uses) (relocations part es))
-      (map_follows Missing is_missing (uses_by_all machine uses) (relocations whole es) (relocations part es) (relocations_follow es))
+      (map_follows Missing is_missing (uses_by_all machine uses) (relocations whole es) (relocations part es) (view.relocations es))
   uses_found_follow machine uses Nothing = inl refl
 
   uses_follow : (machine : ℕ) (uses : List SymbolUses) → FollowsBy uses_missing is_missing (dynamic_uses machine whole uses) (dynamic_uses machine part uses)

@@ -3,7 +3,6 @@ use Rattle.std.proofs.Common.{◌≡◌, inl, inr, ℕ, Bool, false, List, Resul
 use Rattle.std.specs.Prelude.{◌≢◌, IfErr, IfSome}
 use Rattle.std.specs.Option.{option_map}
 use Rattle.elf_records.specs.declared.dynamic.Dyn.{Dyn}
-use Rattle.elf_records.specs.declared.parse.ParseError.{ParseError}
 use Rattle.elf.specs.Answers.{dynamic}
 use Rattle.elf.specs.ElfStream.{Keeps, StreamView}
 use Rattle.elf_reading.specs.Refusals.{IsRefused, Kind}

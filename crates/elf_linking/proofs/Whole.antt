@@ -7,7 +7,8 @@ use Rattle.elf.specs.Answers.{section_data_as_relas, section_data_as_rels}
 use Rattle.elf.specs.ObjectFile.{Extent, FileOf, ObjectFile, Partial, err_map}
 use Rattle.elf_abi.specs.Values.{sht_rel, sht_rela}
 use Rattle.elf_dynamic.specs.Linked.{Entries, Nothing, Place, Sections, linked_by}
-use Rattle.elf_linking.specs.BySegments.{relocations, uses_by_all}
+use Rattle.elf_dynamic.specs.dynamic_view.Relocations.{relocations}
+use Rattle.elf_linking.specs.BySegments.{uses_by_all}
 use Rattle.elf_linking.specs.DynamicFile.{dynamic_uses, or_unknown, uses_found}
 use Rattle.elf_dynamic.specs.dynamic_view.Laws.{FollowsBy}
 use Rattle.elf_linking.specs.Following.{HasLinks, IsThere, LinksFollow, SameLinks, object_missing, uses_missing}

@@ -220,7 +220,7 @@ IsChosenFor kind object name Any result =
 abbrev pub IsChosen : VersionedObject → List ℕ → Wanted → Result (Option (ℕ × Symbol)) Unreadable → Type 0
 IsChosen object name wanted result = IsChosenFor JumpSlot object name wanted result
 
--- what the object at a place has for a reference: its choice, or nothing if it is passed over
+-- what the object at a place has for a reference: its choice, or nothing if it is skipped
 abbrev pub IsFoundAt : ReferenceKind → ℕ → VersionedObject → List ℕ → Wanted →
     Result (Option (ℕ × Symbol)) Unreadable → Type 0
 IsFoundAt kind place object name wanted result =

@@ -1,4 +1,4 @@
--- What is looked up and bound of a file: its symbols for dynamic linking, the object that it is, and the uses that its
+-- What is looked up and bound of a file: its dynamic symbols, the object that it is, and the uses that its
 -- relocations make of the symbols. A file that declares section headers is read by these; one that declares none is read
 -- by its dynamic entries, as the dynamic linker reads each file.
 use Rattle.std.specs.Prelude.{ℕ, Bool, List, Option, Some, None, Result, Ok, Err}
@@ -9,18 +9,19 @@ use Rattle.elf_records.specs.Table.{Table}
 use Rattle.elf_records.specs.declared.file.Class.{Class}
 use Rattle.elf_records.specs.declared.section.SectionHeader.{SectionHeader}
 use Rattle.elf_parts.specs.gnu_symver.Table.{Versions}
-use Rattle.elf.specs.Answers.{dynamic_symbol_table, symbol_version_table}
 use Rattle.elf.specs.Data.{section_data}
 use Rattle.elf.specs.Headers.{first_section_of, if_found}
 use Rattle.elf.specs.ObjectFile.{ErrorOf, Extent, FileOf, Whole, err_map}
+use Rattle.elf_dynamic.specs.Linked as linked
 use Rattle.elf_dynamic.specs.Linked.{Entries, Nothing, Place, Sections, linked_by}
 use Rattle.elf_dynamic.specs.declared.dynamic_view.error.DynamicError.{DynamicError}
+use Rattle.elf_dynamic.specs.dynamic_view.Relocations.{relocations}
 use Rattle.elf_hash_check.specs.Object.{Object, object_in}
 use Rattle.elf_hash_check.specs.declared.hashcheck.any.HashKind.{HashKind}
 use Rattle.elf_hash_check.specs.declared.hashcheck.any.HashKind.TheVariants.{Gnu, Sysv}
 use Rattle.elf_linking.specs.Binding.{VersionedObject}
 use Rattle.elf_linking.specs.BindingObjects.{GivesObject}
-use Rattle.elf_linking.specs.BySegments.{relocations, symbols_with_strings, uses_by_all, versions}
+use Rattle.elf_linking.specs.BySegments.{uses_by_all}
 use Rattle.elf_linking.specs.BySegments.{hash_section as segment_hash}
 use Rattle.elf_linking.specs.ObjectTable.{HashBytes, HashParts, or_fault, or_no_symbols}
 use Rattle.elf_linking.specs.SymbolUses.{uses_by}
@@ -36,13 +37,8 @@ or_dynamic r = err_map Dynamic r
 
 -- ---- the symbols with their strings, if there are any
 
-abbrev pub symbols_by : {x : Extent} → FileOf x → Place → Result (Option (Table × List ℕ)) ObjectFault
-symbols_by {x} file Sections = or_fault x (dynamic_symbol_table file)
-symbols_by file (Entries entries) = ok_map Some (or_dynamic (symbols_with_strings file entries))
-symbols_by file Nothing = Ok None
-
 abbrev pub dynamic_symbols : {x : Extent} → FileOf x → Result (Option (Table × List ℕ)) ObjectFault
-dynamic_symbols file = or_dynamic (linked_by file) >>= symbols_by file
+dynamic_symbols file = or_dynamic (linked.dynamic_symbols file)
 
 -- ---- the hash section, if there is one: a GNU section, or if there is none a SysV section
 
@@ -77,13 +73,8 @@ hash_parts file = hash_section file >>= if_found (with_symbols file)
 
 -- ---- the versions of the symbols, if there are any
 
-abbrev pub versions_by : {x : Extent} → FileOf x → Place → Result (Option Versions) ObjectFault
-versions_by {x} file Sections = or_fault x (symbol_version_table file)
-versions_by file (Entries entries) = or_dynamic (versions file entries)
-versions_by file Nothing = Ok None
-
 abbrev pub dynamic_versions : {x : Extent} → FileOf x → Result (Option Versions) ObjectFault
-dynamic_versions file = or_dynamic (linked_by file) >>= versions_by file
+dynamic_versions file = or_dynamic (linked.dynamic_versions file)
 
 -- ---- the object: the hash table over the symbols, and their versions
 

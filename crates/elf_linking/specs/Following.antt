@@ -1,4 +1,4 @@
--- What look-ups use of a file, of a part of it beside the whole: the symbols for dynamic linking, the hash section with
+-- What look-ups use of a file, of a part of it beside the whole: the dynamic symbols, the hash section with
 -- what it is checked over, the versions, and the uses that relocations make of the symbols.
 use Rattle.std.specs.Prelude.{◌≡◌, ℕ, Bool, List, Result, Err}
 use Rattle.elf.specs.ObjectFile.{Extent, FileOf, ObjectFile, Partial}

@@ -1,17 +1,17 @@
 -- The names by which the dynamic linker finds a file and the libraries that it loads with it (gABI, chapter "Dynamic
 -- Section"; GNU C library), of a whole file or of a part, and what is answered of them over a stream.
-use Rattle.std.specs.Prelude.{◌≡◌, ◌⊎◌, ℕ, ◌==◌, ◌||◌, not, Bool, false, if◌then◌else◌}
-use Rattle.std.specs.Prelude.{bit_and, filter, ℤ, pos, List, [], ◌∷◌, map, unwrap_or}
-use Rattle.std.specs.Prelude.{Option, Some, None, Result, Ok, Err, IfSome, ok_or}
+use Rattle.std.specs.Prelude.{◌≡◌, ℕ, ◌==◌, ◌||◌, not, Bool, if◌then◌else◌}
+use Rattle.std.specs.Prelude.{bit_and, filter, ℤ, List, [], ◌∷◌, map, unwrap_or}
+use Rattle.std.specs.Prelude.{Option, Some, None, Result, Ok, Err, ok_or}
 use Rattle.std.specs.Option.{option_map}
 use Rattle.std.specs.Result.{result_ok}
-use Rattle.elf_abi.specs.Values.{dt_needed, dt_rpath, dt_runpath, dt_soname, dt_strsz, dt_strtab}
+use Rattle.elf_abi.specs.Values.{df_1_nodeflib, dt_auxiliary, dt_filter, dt_flags_1, dt_needed, dt_rpath, dt_runpath}
+use Rattle.elf_abi.specs.Values.{dt_soname, dt_strsz, dt_strtab}
 use Rattle.elf_records.specs.Dynamic.{d_un_view, has_tag}
 use Rattle.elf_records.specs.Number.{ok_map}
 use Rattle.elf_records.specs.Record.{◌>>=◌}
 use Rattle.elf_records.specs.StringTable.{string_at}
 use Rattle.elf_records.specs.declared.dynamic.Dyn.{Dyn}
-use Rattle.elf_records.specs.declared.parse.ParseError.{ParseError}
 use Rattle.elf_records.specs.declared.segment.ProgramHeader.{ProgramHeader}
 use Rattle.elf.specs.Answers.{dynamic}
 use Rattle.elf_reading.specs.Refusals.{Kind, kind}
@@ -62,12 +62,6 @@ name_with strings tag entries = if_found (name_of strings) (value_of tag entries
 -- ---- the libraries that are loaded with the file: those that it needs, and its filtees, in which symbols are looked up
 -- before the file itself (Solaris; GNU C library). An auxiliary filtee may be missing.
 
-abbrev pub dt_auxiliary : ℤ
-dt_auxiliary = pos 0x7ffffffd
-
-abbrev pub dt_filter : ℤ
-dt_filter = pos 0x7fffffff
-
 abbrev pub is_library : Dyn → Bool
 is_library entry = has_tag dt_needed entry || has_tag dt_auxiliary entry || has_tag dt_filter entry
 
@@ -93,12 +87,6 @@ abbrev pub libraries_of : List ℕ → List Dyn → Result (List Wanted) NamesEr
 libraries_of strings entries = libraries_of_all strings (filter is_library entries)
 
 -- ---- the flag DF_1_NODEFLIB of DT_FLAGS_1: the libraries of the file are not searched for in the usual folders
-
-abbrev pub dt_flags_1 : ℤ
-dt_flags_1 = pos 0x6ffffffb
-
-abbrev pub df_1_nodeflib : ℕ
-df_1_nodeflib = 0x800
 
 abbrev pub has_nodeflib : List Dyn → Bool
 has_nodeflib entries = not (bit_and (unwrap_or (value_of dt_flags_1 entries) 0) df_1_nodeflib == 0)

@@ -1,37 +1,11 @@
 -- How a relocation refers to its symbol, by its type (the supplements of the processors to the System V ABI, chapter
 -- "Dynamic Linking" or "Relocation").
 use Rattle.std.specs.Prelude.{ℕ, ◌==◌, if◌then◌else◌, Option, Some, None}
+use Rattle.elf_abi.specs.Values.{em_386, em_aarch64, em_arm, em_loongarch, em_ppc, em_ppc64, em_riscv, em_s390}
+use Rattle.elf_abi.specs.Values.{em_x86_64}
 use Rattle.elf_linking.specs.declared.ReferenceKind.{ReferenceKind}
 use Rattle.elf_linking.specs.declared.ReferenceKind.TheVariants.{Address, Copied, JumpSlot}
 use Rattle.elf_linking.specs.declared.kinds.LinkageTypes.{LinkageTypes}
-
--- e_machine of x86-64, AArch64, 386, ARM, RISC-V, PowerPC, S390 and LoongArch
-abbrev pub em_x86_64 : ℕ
-em_x86_64 = 62
-
-abbrev pub em_aarch64 : ℕ
-em_aarch64 = 183
-
-abbrev pub em_386 : ℕ
-em_386 = 3
-
-abbrev pub em_arm : ℕ
-em_arm = 40
-
-abbrev pub em_riscv : ℕ
-em_riscv = 243
-
-abbrev pub em_ppc64 : ℕ
-em_ppc64 = 21
-
-abbrev pub em_ppc : ℕ
-em_ppc = 20
-
-abbrev pub em_s390 : ℕ
-em_s390 = 22
-
-abbrev pub em_loongarch : ℕ
-em_loongarch = 258
 
 -- the relocation types of a jump slot and of a copy
 abbrev pub types : ℕ → ℕ → Option LinkageTypes

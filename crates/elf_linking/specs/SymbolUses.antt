@@ -1,16 +1,16 @@
--- By which kinds of references the relocations of a file name its symbols for dynamic linking.
+-- By which kinds of references the relocations of a file name its dynamic symbols.
 use Rattle.std.specs.Prelude.{ℕ, ◌-◌, ◌==◌, ◌&&◌, ◌||◌, nat_lt, if◌then◌else◌, Bool, true, false}
-use Rattle.std.specs.Prelude.{List, [], ◌∷◌, length, map, slice_index_or, slice_set, Result, Ok, Err}
+use Rattle.std.specs.Prelude.{List, [], ◌∷◌, length, slice_index_or, slice_set, Result, Ok, Err}
 use Rattle.elf_abi.specs.Values.{sht_dynsym, sht_rel, sht_rela}
 use Rattle.elf_records.specs.Number.{ok_map}
 use Rattle.elf_records.specs.Record.{◌>>=◌}
 use Rattle.elf_records.specs.Relocation.{fields_of_rel, fields_of_rela}
-use Rattle.elf_records.specs.declared.relocation.RelocationFields.{RelocationFields}
 use Rattle.elf_records.specs.declared.section.SectionHeader.{SectionHeader}
 use Rattle.elf.specs.Answers.{section_data_as_relas, section_data_as_rels}
 use Rattle.elf.specs.ObjectFile.{ErrorOf, Extent, FileOf, Partial, Whole, err_map}
 use Rattle.elf.specs.declared.read_error.ReadError.TheVariants.{NotLoaded, Parse}
 use Rattle.elf_dynamic.specs.declared.dynamic_view.error.DynamicError.TheVariants.{Missing}
+use Rattle.elf_dynamic.specs.dynamic_view.Relocations.{all_parts}
 use Rattle.elf_linking.specs.ReferenceKinds.{reference_kind}
 use Rattle.elf_linking.specs.declared.ReferenceKind.{ReferenceKind}
 use Rattle.elf_linking.specs.declared.ReferenceKind.TheVariants.{Address, Copied, JumpSlot}
@@ -43,20 +43,13 @@ uses_after machine uses [] = uses
 uses_after machine uses (r ∷ relocations) =
     uses_after machine (use_added uses r.0 (reference_kind machine r.1)) relocations
 
-abbrev pub parts_of : RelocationFields → ℕ × ℕ
-parts_of r = (r.r_sym, r.r_type)
-
--- those of relocations with these fields
-abbrev pub all_parts : {P : Type 0} → (P → RelocationFields) → List P → List (ℕ × ℕ)
-all_parts fields relocations = map (λ r. parts_of (fields r)) relocations
-
 -- ---- those of a file for this machine
 
 abbrev pub has_type : {E : Type 0} → ℕ → Result SectionHeader E → Bool
 has_type sh_type (Ok s) = s.sh_type == sh_type
 has_type sh_type (Err e) = false
 
--- a section of relocations, linked to the symbols for dynamic linking
+-- a section of relocations, linked to the dynamic symbols
 abbrev pub is_dynamic : {x : Extent} → FileOf x → SectionHeader → Bool
 is_dynamic file s =
     (s.sh_type == sht_rel || s.sh_type == sht_rela) && has_type sht_dynsym (file.section_at s.sh_link)

@@ -1,4 +1,4 @@
-//! What is looked up and bound of a file: its symbols for dynamic linking, the object that it is, and the uses that its
+//! What is looked up and bound of a file: its dynamic symbols, the object that it is, and the uses that its
 //! relocations make of the symbols. A file that declares section headers is read by these. One that declares none is
 //! read by its dynamic entries, as the dynamic linker reads each file.
 ghost use Rattle.std.specs.Prelude.{◌≡◌};
@@ -13,47 +13,27 @@ ghost use Rattle.elf_parts.specs.gnu_symver.Table.{versions_view};
 ghost use Rattle.elf_records.specs.Number.{ok_map};
 
 use crate::bindings::uses::{SymbolUses, UsesError, add_uses};
-use crate::by_segments::{add_relocations, symbols_with_strings};
+use crate::by_segments::add_relocations;
 use crate::resolve::{HashBytes, HashParts, ObjectFault, checked_in};
 use crate::{VersionedObject, by_segments};
 use elf::endian::EndianParse;
 use elf::gnu_symver::SymbolVersionTable;
-use elf::reader::{Reader, dynamic_symbol_table, section_data, symbol_version_table};
+use elf::reader::{Reader, section_data};
 use elf::string_table::StringTable;
 use elf::symbol::SymbolTable;
 use elf::{ReadError, abi};
+use elf_dynamic::linked;
 use elf_dynamic::linked::{LinkedBy, linked_by};
 use elf_hash_check::hashcheck::HashKind;
 
-/// Returns the symbols for dynamic linking with their strings, or `None` if the file has none. If it declares no section
-/// headers, these are as many symbols as its hash section counts, and at least as many as its relocations name.
-///
-/// Errors: `Read` with that of `ElfBytes::dynamic_symbol_table`; of a file that declares no section headers `Dynamic`
-/// with the first of `dynamic_table`, `symbols`, of its relocations (`rels`, `relas`, `plt_relocations`) and of
-/// `strings`.
-///
-/// ```rust
-/// if let Some((symbols, strings)) = dynamic_symbols(&file)? {
-///     let size = strings.bytes().len();
-///     println!(rt; "{} symbols, {size} bytes of names", symbols.len())?;
-/// }
-/// ```
+/// Returns the dynamic symbols of `linked::dynamic_symbols`. The error is `Dynamic` with that of this function.
 pub fn dynamic_symbols<'f, E: EndianParse, R: Reader<E>>(
     file: &'f R,
 ) -> Result<Option<(SymbolTable<'f, E>, StringTable<'f>)>, ObjectFault>
     ensures { ok_map (option_map symbols_view) result ≡ dynamic_symbols (loaded (R.file file.now) (R.ranges file.now)) }
 {
-    match linked_by(file)? {
-        LinkedBy::Sections => {
-            let symbols = dynamic_symbol_table(file)?;
-            Ok(symbols)
-        }
-        LinkedBy::Entries(entries) => {
-            let symbols = symbols_with_strings(file, &entries)?;
-            Ok(Some(symbols))
-        }
-        LinkedBy::Nothing => Ok(None),
-    }
+    let symbols = linked::dynamic_symbols(file)?;
+    Ok(symbols)
 }
 
 // The first section of type SHT_GNU_HASH, or if there is none the first of type SHT_HASH.
@@ -113,17 +93,8 @@ pub(crate) fn versions<'f, E: EndianParse, R: Reader<E>>(
 ) -> Result<Option<SymbolVersionTable<'f, E>>, ObjectFault>
     ensures { ok_map (option_map versions_view) result ≡ dynamic_versions (loaded (R.file file.now) (R.ranges file.now)) }
 {
-    match linked_by(file)? {
-        LinkedBy::Sections => {
-            let versions = symbol_version_table(file)?;
-            Ok(versions)
-        }
-        LinkedBy::Entries(entries) => {
-            let versions = by_segments::versions(file, &entries)?;
-            Ok(versions)
-        }
-        LinkedBy::Nothing => Ok(None),
-    }
+    let versions = linked::dynamic_versions(file)?;
+    Ok(versions)
 }
 
 /// Returns the object that a file is in a look-up with versions, or `None` exactly if it has no hash section. The
@@ -153,7 +124,7 @@ pub fn dynamic_object<'f, E: EndianParse, R: Reader<E>>(
     Ok(Some(VersionedObject { table, versions }))
 }
 
-/// Adds the uses that the relocations of a file make of its symbols for dynamic linking, in the order of their table. If
+/// Adds the uses that the relocations of a file make of its dynamic symbols, in the order of their table. If
 /// the file declares no section headers, its relocations are those that its dynamic entries give.
 ///
 /// Errors: those of `add_uses`; of a file that declares no section headers `Dynamic` if its dynamic entries or its

@@ -6,7 +6,7 @@ use crate::ReferenceKind;
 use elf_abi::abi;
 
 // The types of the relocations of a machine by which procedures are linked.
-#[derive(Debug, Clone, Copy)]
+#[derive(Clone, Copy)]
 pub(crate) struct LinkageTypes {
     jump_slot: u32,
     copied: u32,

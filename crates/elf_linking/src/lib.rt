@@ -69,7 +69,7 @@ pub enum ReferenceKind {
 }
 
 // When a definition of an object with versions serves.
-#[derive(Debug, Clone, Copy)]
+#[derive(Clone, Copy)]
 pub(crate) enum Rule<'a> {
     // It has this version, or none and is not hidden.
     Versioned(Version<'a>),

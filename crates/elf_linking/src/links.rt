@@ -1,6 +1,7 @@
-//! What look-ups use of a file, from a source: its symbols for dynamic linking, its hash section, its versions and its
+//! What look-ups use of a file, from a source: its dynamic symbols, its hash section, its versions and its
 //! relocations.
 ghost use Rattle.std.specs.Prelude.{◌≡◌, IfSome, IsNone, OnOk};
+ghost use Rattle.elf_reading.specs.Refusals.{HasReason};
 ghost use Rattle.elf.specs.ElfStream.{Keeps};
 ghost use Rattle.elf.specs.Parts.{loaded};
 ghost use Rattle.elf.specs.StreamFile.{stream_file};
@@ -65,7 +66,9 @@ fn load_within<E: EndianParse, S: StreamSource>(
     left: u64,
     range: Range,
 ) -> Result<u64, ParseError>
-    ensures { Keeps stream.old stream.new }
+    ensures keeps { Keeps stream.old stream.new }
+    ensures reason { IfSome stream.old.content (λ _.
+        HasReason stream.old.failures stream.new.failures stream.old.can_fail ⊥ result) }
 {
     let size = range.1.saturating_sub(range.0);
     match left.checked_sub(size) {
@@ -91,12 +94,14 @@ fn range_in(len: u64, section: &SectionHeader) -> Option<Range> {
     }
 }
 
-// Loads the sections of relocations of symbols for dynamic linking. There may be thousands of them, and after each range
+// Loads the sections of relocations of dynamic symbols. There may be thousands of them, and after each range
 // that is missing the reading begins again. Returns how many bytes are left to load range by range.
 fn load_relocations<E: EndianParse, S: StreamSource>(
     stream: &mut ElfStream<E, S, Global>,
 ) -> Result<u64, ParseError>
-    ensures { Keeps stream.old stream.new }
+    ensures keeps { Keeps stream.old stream.new }
+    ensures reason { IfSome stream.old.content (λ _.
+        HasReason stream.old.failures stream.new.failures stream.old.can_fail ⊥ result) }
 {
     let len = stream.source_len();
     let mut left = len;
@@ -124,6 +129,8 @@ pub fn load_links<E: EndianParse, S: StreamSource>(
     stream: &mut ElfStream<E, S, Global>,
 ) -> Result<(), ParseError>
     ensures keeps { Keeps stream.old stream.new }
+    ensures reason { IfSome stream.old.content (λ _.
+        HasReason stream.old.failures stream.new.failures stream.old.can_fail ⊥ result) }
     ensures links { OnOk result (IfSome stream.new.content (λ bytes.
         SameLinks (stream_file E.little stream.new bytes) (loaded_part E.little stream.new))) }
 {

@@ -2,8 +2,8 @@
 -- Architecture, chapter "Build Attributes"; RISC-V ELF psABI, section "Attributes"; GNU as, section "Object Attributes").
 use Rattle.std.specs.Prelude.{ℕ, ◌==◌, ◌||◌, ◌&&◌, nat_eq, if◌then◌else◌, List, [], codes, Option}
 use Rattle.std.specs.Str.{bytes_eq}
+use Rattle.elf_abi.specs.Values.{em_68k, em_mips, em_ppc, em_ppc64, em_s390, em_sparc, em_sparc32plus, em_sparcv9}
 use Rattle.elf_abi.specs.Names.{Row, name_of}
-use Rattle.elf_abi.specs.declared.abi.TheConstants as machine
 use Rattle.elf_names.specs.Table.{rows}
 use Rattle.elf_names.specs.declared.attributes.TheConstants as names
 
@@ -19,11 +19,11 @@ scope_name tag = name_of nat_eq scopes tag
 -- of GNU, by the machine
 unfoldable pub gnu_tags : ℕ → List (Row ℕ)
 gnu_tags m =
-    if m == machine.EM_68K then rows names.M68K_TAGS.now
-    else if m == machine.EM_MIPS then rows names.MIPS_TAGS.now
-    else if m == machine.EM_PPC || m == machine.EM_PPC64 then rows names.POWER_TAGS.now
-    else if m == machine.EM_S390 then rows names.S390_TAGS.now
-    else if m == machine.EM_SPARC || m == machine.EM_SPARC32PLUS || m == machine.EM_SPARCV9
+    if m == em_68k then rows names.M68K_TAGS.now
+    else if m == em_mips then rows names.MIPS_TAGS.now
+    else if m == em_ppc || m == em_ppc64 then rows names.POWER_TAGS.now
+    else if m == em_s390 then rows names.S390_TAGS.now
+    else if m == em_sparc || m == em_sparc32plus || m == em_sparcv9
     then rows names.SPARC_TAGS.now
     else rows names.GNU_TAGS.now
 

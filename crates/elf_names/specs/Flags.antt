@@ -1,7 +1,8 @@
 -- The names of flags: single bits, and fields of some bits.
 use Rattle.std.specs.Prelude.{ℕ, ◌==◌, Bool, if◌then◌else◌, bit_and, List, [], map}
 use Rattle.std.specs.Borrow.{Bor}
-use Rattle.elf_abi.specs.declared.abi.TheConstants as machine
+use Rattle.elf_abi.specs.Values.{em_alpha, em_arm, em_csky, em_ia_64, em_loongarch, em_mips, em_openrisc, em_parisc}
+use Rattle.elf_abi.specs.Values.{em_ppc, em_ppc64, em_riscv, em_s390, em_sh, em_sparc, em_sparc32plus, em_sparcv9}
 use Rattle.elf_names.specs.declared.flags.TheConstants as names
 use Rattle.elf_names.specs.declared.machines.TheConstants as linux
 
@@ -43,21 +44,21 @@ version_flags = flags names.VERSION.now
 -- of e_flags, by the machine
 unfoldable pub file_flags : ℕ → List Flag
 file_flags e_machine =
-    if e_machine == machine.EM_ARM then flags names.ARM.now
-    else if e_machine == machine.EM_MIPS then flags names.MIPS.now
-    else if e_machine == machine.EM_PPC then flags names.PPC.now
-    else if e_machine == machine.EM_PPC64 then flags names.PPC64.now
-    else if e_machine == machine.EM_RISCV then flags names.RISCV.now
-    else if e_machine == machine.EM_S390 then flags names.S390.now
-    else if e_machine == machine.EM_LOONGARCH then flags names.LOONGARCH.now
-    else if e_machine == machine.EM_PARISC then flags names.PARISC.now
-    else if e_machine == machine.EM_SH then flags names.SH.now
-    else if e_machine == machine.EM_SPARC then flags names.SPARC.now
-    else if e_machine == machine.EM_SPARC32PLUS then flags names.SPARC.now
-    else if e_machine == machine.EM_SPARCV9 then flags names.SPARCV9.now
-    else if e_machine == machine.EM_ALPHA then flags names.ALPHA.now
+    if e_machine == em_arm then flags names.ARM.now
+    else if e_machine == em_mips then flags names.MIPS.now
+    else if e_machine == em_ppc then flags names.PPC.now
+    else if e_machine == em_ppc64 then flags names.PPC64.now
+    else if e_machine == em_riscv then flags names.RISCV.now
+    else if e_machine == em_s390 then flags names.S390.now
+    else if e_machine == em_loongarch then flags names.LOONGARCH.now
+    else if e_machine == em_parisc then flags names.PARISC.now
+    else if e_machine == em_sh then flags names.SH.now
+    else if e_machine == em_sparc then flags names.SPARC.now
+    else if e_machine == em_sparc32plus then flags names.SPARC.now
+    else if e_machine == em_sparcv9 then flags names.SPARCV9.now
+    else if e_machine == em_alpha then flags names.ALPHA.now
     else if e_machine == linux.GNU_ALPHA then flags names.ALPHA.now
-    else if e_machine == machine.EM_IA_64 then flags names.IA_64.now
-    else if e_machine == machine.EM_CSKY then flags names.CSKY.now
-    else if e_machine == machine.EM_OPENRISC then flags names.OPENRISC.now
+    else if e_machine == em_ia_64 then flags names.IA_64.now
+    else if e_machine == em_csky then flags names.CSKY.now
+    else if e_machine == em_openrisc then flags names.OPENRISC.now
     else []

@@ -1,7 +1,10 @@
 -- The types of relocations, by machine.
 use Rattle.std.specs.Prelude.{ℕ, ◌==◌, ◌||◌, if◌then◌else◌, List, [], Option, nat_eq}
+use Rattle.elf_abi.specs.Values.{em_386, em_68k, em_aarch64, em_alpha, em_altera_nios2, em_amdgpu, em_arc_compact}
+use Rattle.elf_abi.specs.Values.{em_arc_compact2, em_arm, em_bpf, em_csky, em_ia_64, em_loongarch, em_microblaze}
+use Rattle.elf_abi.specs.Values.{em_mips, em_openrisc, em_parisc, em_ppc, em_ppc64, em_riscv, em_s390, em_sh, em_sparc}
+use Rattle.elf_abi.specs.Values.{em_sparc32plus, em_sparcv9, em_x86_64}
 use Rattle.elf_abi.specs.Names.{Row, name_of}
-use Rattle.elf_abi.specs.declared.abi.TheConstants as machine
 use Rattle.elf_names.specs.Table.{rows}
 use Rattle.elf_names.specs.declared.machines.TheConstants as linux
 use Rattle.elf_names.specs.declared.relocations.aarch64.TheConstants as aarch64
@@ -28,34 +31,39 @@ use Rattle.elf_names.specs.declared.relocations.sh.TheConstants as sh
 use Rattle.elf_names.specs.declared.relocations.sparc.TheConstants as sparc
 use Rattle.elf_names.specs.declared.relocations.x86_64.TheConstants as x86_64
 
--- the types of relocations with their names; none of a machine whose types are not known here
+-- of machines for which fewer systems are made; none of a machine whose types are not known here
+unfoldable pub types_of_others : ℕ → List (Row ℕ)
+types_of_others e_machine =
+    if e_machine == em_68k then rows m68k.TYPES.now
+    else if e_machine == em_parisc then rows parisc.TYPES.now
+    else if e_machine == em_sh then rows sh.TYPES.now
+    else if e_machine == em_sparc || e_machine == em_sparc32plus || e_machine == em_sparcv9
+    then rows sparc.TYPES.now
+    else if e_machine == em_alpha || e_machine == linux.GNU_ALPHA then rows alpha.TYPES.now
+    else if e_machine == em_ia_64 then rows ia_64.TYPES.now
+    else if e_machine == em_csky then rows csky.TYPES.now
+    else if e_machine == em_arc_compact || e_machine == em_arc_compact2 then rows arc.TYPES.now
+    else if e_machine == em_openrisc then rows openrisc.TYPES.now
+    else if e_machine == em_microblaze then rows microblaze.TYPES.now
+    else if e_machine == em_altera_nios2 then rows nios2.TYPES.now
+    else if e_machine == em_bpf then rows bpf.TYPES.now
+    else if e_machine == em_amdgpu then rows amdgpu.TYPES.now
+    else []
+
+-- the types of relocations with their names
 unfoldable pub relocation_types : ℕ → List (Row ℕ)
 relocation_types e_machine =
-    if e_machine == machine.EM_X86_64 then rows x86_64.TYPES.now
-    else if e_machine == machine.EM_386 then rows i386.TYPES.now
-    else if e_machine == machine.EM_AARCH64 then rows aarch64.TYPES.now
-    else if e_machine == machine.EM_ARM then rows arm.TYPES.now
-    else if e_machine == machine.EM_MIPS then rows mips.TYPES.now
-    else if e_machine == machine.EM_PPC then rows ppc.TYPES.now
-    else if e_machine == machine.EM_PPC64 then rows ppc64.TYPES.now
-    else if e_machine == machine.EM_RISCV then rows riscv.TYPES.now
-    else if e_machine == machine.EM_S390 then rows s390.TYPES.now
-    else if e_machine == machine.EM_LOONGARCH then rows loongarch.TYPES.now
-    else if e_machine == machine.EM_68K then rows m68k.TYPES.now
-    else if e_machine == machine.EM_PARISC then rows parisc.TYPES.now
-    else if e_machine == machine.EM_SH then rows sh.TYPES.now
-    else if e_machine == machine.EM_SPARC || e_machine == machine.EM_SPARC32PLUS || e_machine == machine.EM_SPARCV9
-    then rows sparc.TYPES.now
-    else if e_machine == machine.EM_ALPHA || e_machine == linux.GNU_ALPHA then rows alpha.TYPES.now
-    else if e_machine == machine.EM_IA_64 then rows ia_64.TYPES.now
-    else if e_machine == machine.EM_CSKY then rows csky.TYPES.now
-    else if e_machine == machine.EM_ARC_COMPACT || e_machine == machine.EM_ARC_COMPACT2 then rows arc.TYPES.now
-    else if e_machine == machine.EM_OPENRISC then rows openrisc.TYPES.now
-    else if e_machine == machine.EM_MICROBLAZE then rows microblaze.TYPES.now
-    else if e_machine == machine.EM_ALTERA_NIOS2 then rows nios2.TYPES.now
-    else if e_machine == machine.EM_BPF then rows bpf.TYPES.now
-    else if e_machine == machine.EM_AMDGPU then rows amdgpu.TYPES.now
-    else []
+    if e_machine == em_x86_64 then rows x86_64.TYPES.now
+    else if e_machine == em_386 then rows i386.TYPES.now
+    else if e_machine == em_aarch64 then rows aarch64.TYPES.now
+    else if e_machine == em_arm then rows arm.TYPES.now
+    else if e_machine == em_mips then rows mips.TYPES.now
+    else if e_machine == em_ppc then rows ppc.TYPES.now
+    else if e_machine == em_ppc64 then rows ppc64.TYPES.now
+    else if e_machine == em_riscv then rows riscv.TYPES.now
+    else if e_machine == em_s390 then rows s390.TYPES.now
+    else if e_machine == em_loongarch then rows loongarch.TYPES.now
+    else types_of_others e_machine
 
 abbrev pub relocation_type_name : ℕ → ℕ → Option (List ℕ)
 relocation_type_name e_machine r_type = name_of nat_eq (relocation_types e_machine) r_type

@@ -1,9 +1,10 @@
 -- The types of sections (gABI, chapter "Sections").
 use Rattle.std.specs.Prelude.{ℕ, ◌==◌, if◌then◌else◌, List, [], Option, nat_eq}
 use Rattle.std.specs.Option.{option_or}
+use Rattle.elf_abi.specs.Values.{em_aarch64, em_alpha, em_arc_compact, em_arc_compact2, em_arm, em_csky, em_ia_64}
+use Rattle.elf_abi.specs.Values.{em_mips, em_parisc, em_riscv, em_x86_64}
 use Rattle.elf_abi.specs.SectionNames.{sh_type_names}
 use Rattle.elf_abi.specs.Names.{Row, name_of}
-use Rattle.elf_abi.specs.declared.abi.TheConstants as machine
 use Rattle.elf_names.specs.Table.{rows}
 use Rattle.elf_names.specs.declared.machines.TheConstants as linux
 use Rattle.elf_names.specs.declared.sections.TheConstants as names
@@ -11,17 +12,17 @@ use Rattle.elf_names.specs.declared.sections.TheConstants as names
 -- of files of this machine
 unfoldable pub section_types : ℕ → List (Row ℕ)
 section_types e_machine =
-    if e_machine == machine.EM_X86_64 then rows names.X86_64.now
-    else if e_machine == machine.EM_ARM then rows names.ARM.now
-    else if e_machine == machine.EM_AARCH64 then rows names.AARCH64.now
-    else if e_machine == machine.EM_RISCV then rows names.RISCV.now
-    else if e_machine == machine.EM_MIPS then rows names.MIPS.now
-    else if e_machine == machine.EM_IA_64 then rows names.IA_64.now
-    else if e_machine == machine.EM_PARISC then rows names.PARISC.now
-    else if e_machine == machine.EM_ARC_COMPACT then rows names.ARC.now
-    else if e_machine == machine.EM_ARC_COMPACT2 then rows names.ARC.now
-    else if e_machine == machine.EM_CSKY then rows names.CSKY.now
-    else if e_machine == machine.EM_ALPHA then rows names.ALPHA.now
+    if e_machine == em_x86_64 then rows names.X86_64.now
+    else if e_machine == em_arm then rows names.ARM.now
+    else if e_machine == em_aarch64 then rows names.AARCH64.now
+    else if e_machine == em_riscv then rows names.RISCV.now
+    else if e_machine == em_mips then rows names.MIPS.now
+    else if e_machine == em_ia_64 then rows names.IA_64.now
+    else if e_machine == em_parisc then rows names.PARISC.now
+    else if e_machine == em_arc_compact then rows names.ARC.now
+    else if e_machine == em_arc_compact2 then rows names.ARC.now
+    else if e_machine == em_csky then rows names.CSKY.now
+    else if e_machine == em_alpha then rows names.ALPHA.now
     else if e_machine == linux.GNU_ALPHA then rows names.ALPHA.now
     else []
 

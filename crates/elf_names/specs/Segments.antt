@@ -1,22 +1,22 @@
 -- The types of segments (gABI, chapter "Program Header").
 use Rattle.std.specs.Prelude.{ℕ, ◌==◌, if◌then◌else◌, List, [], Option, nat_eq}
 use Rattle.std.specs.Option.{option_or}
+use Rattle.elf_abi.specs.Values.{em_aarch64, em_arm, em_ia_64, em_mips, em_parisc, em_riscv, em_s390}
 use Rattle.elf_abi.specs.SegmentNames.{p_type_names}
 use Rattle.elf_abi.specs.Names.{Row, name_of}
-use Rattle.elf_abi.specs.declared.abi.TheConstants as machine
 use Rattle.elf_names.specs.Table.{rows}
 use Rattle.elf_names.specs.declared.segments.TheConstants as names
 
 -- of files of this machine
 unfoldable pub segment_types : ℕ → List (Row ℕ)
 segment_types e_machine =
-    if e_machine == machine.EM_ARM then rows names.ARM.now
-    else if e_machine == machine.EM_AARCH64 then rows names.AARCH64.now
-    else if e_machine == machine.EM_RISCV then rows names.RISCV.now
-    else if e_machine == machine.EM_MIPS then rows names.MIPS.now
-    else if e_machine == machine.EM_S390 then rows names.S390.now
-    else if e_machine == machine.EM_PARISC then rows names.PARISC.now
-    else if e_machine == machine.EM_IA_64 then rows names.IA_64.now
+    if e_machine == em_arm then rows names.ARM.now
+    else if e_machine == em_aarch64 then rows names.AARCH64.now
+    else if e_machine == em_riscv then rows names.RISCV.now
+    else if e_machine == em_mips then rows names.MIPS.now
+    else if e_machine == em_s390 then rows names.S390.now
+    else if e_machine == em_parisc then rows names.PARISC.now
+    else if e_machine == em_ia_64 then rows names.IA_64.now
     else []
 
 -- of files of any machine

@@ -121,10 +121,10 @@ fn arm_values(tag: u64) -> Names<u64>
 }
 
 /// What attributes are of.
-pub const SCOPES: Names<u64> = &[(1, "Tag_File"), (2, "Tag_Section"), (3, "Tag_Symbol")];
+pub static SCOPES: Names<u64> = &[(1, "Tag_File"), (2, "Tag_Section"), (3, "Tag_Symbol")];
 
 /// Tags of Arm (Addenda to, and Errata in, the ABI for the Arm Architecture, chapter "Build Attributes").
-pub const ARM_TAGS: Names<u64> = &[
+pub static ARM_TAGS: Names<u64> = &[
     (4, "Tag_CPU_raw_name"),
     (5, "Tag_CPU_name"),
     (6, "Tag_CPU_arch"),
@@ -174,7 +174,7 @@ pub const ARM_TAGS: Names<u64> = &[
 ];
 
 /// Tags of RISC-V (RISC-V ELF psABI, section "Attributes").
-pub const RISCV_TAGS: Names<u64> = &[
+pub static RISCV_TAGS: Names<u64> = &[
     (4, "Tag_RISCV_stack_align"),
     (5, "Tag_RISCV_arch"),
     (6, "Tag_RISCV_unaligned_access"),
@@ -186,20 +186,20 @@ pub const RISCV_TAGS: Names<u64> = &[
 ];
 
 /// Tags of GNU (GNU as, section "Object Attributes").
-pub const GNU_TAGS: Names<u64> = &[(32, "Tag_compatibility")];
+pub static GNU_TAGS: Names<u64> = &[(32, "Tag_compatibility")];
 
 /// Those of M68K.
-pub const M68K_TAGS: Names<u64> = &[(4, "Tag_GNU_M68K_ABI_FP"), (32, "Tag_compatibility")];
+pub static M68K_TAGS: Names<u64> = &[(4, "Tag_GNU_M68K_ABI_FP"), (32, "Tag_compatibility")];
 
 /// Those of MIPS.
-pub const MIPS_TAGS: Names<u64> = &[
+pub static MIPS_TAGS: Names<u64> = &[
     (4, "Tag_GNU_MIPS_ABI_FP"),
     (8, "Tag_GNU_MIPS_ABI_MSA"),
     (32, "Tag_compatibility"),
 ];
 
 /// Those of PowerPC.
-pub const POWER_TAGS: Names<u64> = &[
+pub static POWER_TAGS: Names<u64> = &[
     (4, "Tag_GNU_Power_ABI_FP"),
     (8, "Tag_GNU_Power_ABI_Vector"),
     (12, "Tag_GNU_Power_ABI_Struct_Return"),
@@ -207,17 +207,17 @@ pub const POWER_TAGS: Names<u64> = &[
 ];
 
 /// Those of S/390.
-pub const S390_TAGS: Names<u64> = &[(8, "Tag_GNU_S390_ABI_Vector"), (32, "Tag_compatibility")];
+pub static S390_TAGS: Names<u64> = &[(8, "Tag_GNU_S390_ABI_Vector"), (32, "Tag_compatibility")];
 
 /// Those of SPARC.
-pub const SPARC_TAGS: Names<u64> = &[
+pub static SPARC_TAGS: Names<u64> = &[
     (4, "Tag_GNU_Sparc_HWCAPS"),
     (8, "Tag_GNU_Sparc_HWCAPS2"),
     (32, "Tag_compatibility"),
 ];
 
 /// `Tag_CPU_arch` of Arm.
-pub const ARM_ARCHITECTURES: Names<u64> = &[
+pub static ARM_ARCHITECTURES: Names<u64> = &[
     (0, "Pre-v4"),
     (1, "v4"),
     (2, "v4T"),
@@ -244,7 +244,7 @@ pub const ARM_ARCHITECTURES: Names<u64> = &[
 ];
 
 /// `Tag_CPU_arch_profile`: letters of ASCII.
-pub const ARM_PROFILES: Names<u64> = &[
+pub static ARM_PROFILES: Names<u64> = &[
     (0, "None"),
     (0x41, "Application"),
     (0x4d, "Microcontroller"),
@@ -253,13 +253,13 @@ pub const ARM_PROFILES: Names<u64> = &[
 ];
 
 /// `Tag_ARM_ISA_use`.
-pub const ARM_ISA: Names<u64> = &[(0, "No"), (1, "Yes")];
+pub static ARM_ISA: Names<u64> = &[(0, "No"), (1, "Yes")];
 
 /// `Tag_THUMB_ISA_use`.
-pub const ARM_THUMB: Names<u64> = &[(0, "No"), (1, "Thumb-1"), (2, "Thumb-2"), (3, "Yes")];
+pub static ARM_THUMB: Names<u64> = &[(0, "No"), (1, "Thumb-1"), (2, "Thumb-2"), (3, "Yes")];
 
 /// `Tag_FP_arch`.
-pub const ARM_FP: Names<u64> = &[
+pub static ARM_FP: Names<u64> = &[
     (0, "No"),
     (1, "VFPv1"),
     (2, "VFPv2"),
@@ -272,10 +272,10 @@ pub const ARM_FP: Names<u64> = &[
 ];
 
 /// `Tag_WMMX_arch`.
-pub const ARM_WMMX: Names<u64> = &[(0, "No"), (1, "WMMXv1"), (2, "WMMXv2")];
+pub static ARM_WMMX: Names<u64> = &[(0, "No"), (1, "WMMXv1"), (2, "WMMXv2")];
 
 /// `Tag_Advanced_SIMD_arch`.
-pub const ARM_SIMD: Names<u64> = &[
+pub static ARM_SIMD: Names<u64> = &[
     (0, "No"),
     (1, "NEONv1"),
     (2, "NEONv1 with Fused-MAC"),
@@ -284,7 +284,7 @@ pub const ARM_SIMD: Names<u64> = &[
 ];
 
 /// `Tag_PCS_config`.
-pub const ARM_CONFIGURATIONS: Names<u64> = &[
+pub static ARM_CONFIGURATIONS: Names<u64> = &[
     (0, "None"),
     (1, "Bare platform"),
     (2, "Linux application"),
@@ -296,10 +296,10 @@ pub const ARM_CONFIGURATIONS: Names<u64> = &[
 ];
 
 /// `Tag_ABI_PCS_R9_use`.
-pub const ARM_R9: Names<u64> = &[(0, "V6"), (1, "SB"), (2, "TLS"), (3, "Unused")];
+pub static ARM_R9: Names<u64> = &[(0, "V6"), (1, "SB"), (2, "TLS"), (3, "Unused")];
 
 /// `Tag_ABI_PCS_RW_data`.
-pub const ARM_RW_DATA: Names<u64> = &[
+pub static ARM_RW_DATA: Names<u64> = &[
     (0, "Absolute"),
     (1, "PC-relative"),
     (2, "SB-relative"),
@@ -307,22 +307,22 @@ pub const ARM_RW_DATA: Names<u64> = &[
 ];
 
 /// `Tag_ABI_PCS_RO_data`.
-pub const ARM_RO_DATA: Names<u64> = &[(0, "Absolute"), (1, "PC-relative"), (2, "None")];
+pub static ARM_RO_DATA: Names<u64> = &[(0, "Absolute"), (1, "PC-relative"), (2, "None")];
 
 /// `Tag_ABI_PCS_GOT_use`.
-pub const ARM_GOT: Names<u64> = &[(0, "None"), (1, "direct"), (2, "GOT-indirect")];
+pub static ARM_GOT: Names<u64> = &[(0, "None"), (1, "direct"), (2, "GOT-indirect")];
 
 /// `Tag_ABI_PCS_wchar_t`: a number of bytes.
-pub const ARM_WCHAR: Names<u64> = &[(0, "None")];
+pub static ARM_WCHAR: Names<u64> = &[(0, "None")];
 
 /// `Tag_ABI_FP_rounding`, `Tag_ABI_FP_exceptions` and `Tag_ABI_FP_user_exceptions`.
-pub const ARM_NEEDED: Names<u64> = &[(0, "Unused"), (1, "Needed")];
+pub static ARM_NEEDED: Names<u64> = &[(0, "Unused"), (1, "Needed")];
 
 /// `Tag_ABI_FP_denormal`.
-pub const ARM_DENORMAL: Names<u64> = &[(0, "Unused"), (1, "Needed"), (2, "Sign only")];
+pub static ARM_DENORMAL: Names<u64> = &[(0, "Unused"), (1, "Needed"), (2, "Sign only")];
 
 /// `Tag_ABI_FP_number_model`.
-pub const ARM_NUMBER_MODEL: Names<u64> = &[
+pub static ARM_NUMBER_MODEL: Names<u64> = &[
     (0, "Unused"),
     (1, "Finite"),
     (2, "RTABI"),
@@ -330,17 +330,17 @@ pub const ARM_NUMBER_MODEL: Names<u64> = &[
 ];
 
 /// `Tag_ABI_align_needed`.
-pub const ARM_ALIGN_NEEDED: Names<u64> = &[(0, "None"), (1, "8-byte"), (2, "4-byte")];
+pub static ARM_ALIGN_NEEDED: Names<u64> = &[(0, "None"), (1, "8-byte"), (2, "4-byte")];
 
 /// `Tag_ABI_align_preserved`.
-pub const ARM_ALIGN_PRESERVED: Names<u64> = &[
+pub static ARM_ALIGN_PRESERVED: Names<u64> = &[
     (0, "None"),
     (1, "8-byte, except leaf SP"),
     (2, "8-byte"),
 ];
 
 /// `Tag_ABI_enum_size`.
-pub const ARM_ENUM_SIZE: Names<u64> = &[
+pub static ARM_ENUM_SIZE: Names<u64> = &[
     (0, "Unused"),
     (1, "small"),
     (2, "int"),
@@ -348,7 +348,7 @@ pub const ARM_ENUM_SIZE: Names<u64> = &[
 ];
 
 /// `Tag_ABI_HardFP_use`.
-pub const ARM_HARD_FP: Names<u64> = &[
+pub static ARM_HARD_FP: Names<u64> = &[
     (0, "As Tag_FP_arch"),
     (1, "SP only"),
     (2, "Reserved"),
@@ -356,7 +356,7 @@ pub const ARM_HARD_FP: Names<u64> = &[
 ];
 
 /// `Tag_ABI_VFP_args`.
-pub const ARM_VFP_ARGUMENTS: Names<u64> = &[
+pub static ARM_VFP_ARGUMENTS: Names<u64> = &[
     (0, "AAPCS"),
     (1, "VFP registers"),
     (2, "custom"),
@@ -364,10 +364,10 @@ pub const ARM_VFP_ARGUMENTS: Names<u64> = &[
 ];
 
 /// `Tag_ABI_WMMX_args`.
-pub const ARM_WMMX_ARGUMENTS: Names<u64> = &[(0, "AAPCS"), (1, "WMMX registers"), (2, "custom")];
+pub static ARM_WMMX_ARGUMENTS: Names<u64> = &[(0, "AAPCS"), (1, "WMMX registers"), (2, "custom")];
 
 /// `Tag_ABI_optimization_goals`.
-pub const ARM_GOALS: Names<u64> = &[
+pub static ARM_GOALS: Names<u64> = &[
     (0, "None"),
     (1, "Prefer Speed"),
     (2, "Aggressive Speed"),
@@ -378,7 +378,7 @@ pub const ARM_GOALS: Names<u64> = &[
 ];
 
 /// `Tag_ABI_FP_optimization_goals`.
-pub const ARM_FP_GOALS: Names<u64> = &[
+pub static ARM_FP_GOALS: Names<u64> = &[
     (0, "None"),
     (1, "Prefer Speed"),
     (2, "Aggressive Speed"),
@@ -389,33 +389,33 @@ pub const ARM_FP_GOALS: Names<u64> = &[
 ];
 
 /// `Tag_CPU_unaligned_access`.
-pub const ARM_UNALIGNED: Names<u64> = &[(0, "None"), (1, "v6")];
+pub static ARM_UNALIGNED: Names<u64> = &[(0, "None"), (1, "v6")];
 
 /// `Tag_FP_HP_extension`, `Tag_MPextension_use`, its older number, and `Tag_T2EE_use`.
-pub const ARM_ALLOWED: Names<u64> = &[(0, "Not Allowed"), (1, "Allowed")];
+pub static ARM_ALLOWED: Names<u64> = &[(0, "Not Allowed"), (1, "Allowed")];
 
 /// `Tag_ABI_FP_16bit_format`.
-pub const ARM_HALF: Names<u64> = &[(0, "None"), (1, "IEEE 754"), (2, "Alternative Format")];
+pub static ARM_HALF: Names<u64> = &[(0, "None"), (1, "IEEE 754"), (2, "Alternative Format")];
 
 /// `Tag_DIV_use`.
-pub const ARM_DIVISION: Names<u64> = &[
+pub static ARM_DIVISION: Names<u64> = &[
     (0, "Allowed in Thumb-ISA, v7-R or v7-M"),
     (1, "Not allowed"),
     (2, "Allowed in v7-A with integer division extension"),
 ];
 
 /// `Tag_DSP_extension`.
-pub const ARM_DSP: Names<u64> = &[(0, "Follow architecture"), (1, "Allowed")];
+pub static ARM_DSP: Names<u64> = &[(0, "Follow architecture"), (1, "Allowed")];
 
 /// `Tag_MVE_arch`.
-pub const ARM_MVE: Names<u64> = &[
+pub static ARM_MVE: Names<u64> = &[
     (0, "No MVE"),
     (1, "MVE Integer only"),
     (2, "MVE Integer and FP"),
 ];
 
 /// `Tag_PAC_extension`.
-pub const ARM_PAC: Names<u64> = &[
+pub static ARM_PAC: Names<u64> = &[
     (0, "No PAC/AUT instructions"),
     (1, "PAC/AUT instructions permitted in the NOP space"),
     (
@@ -425,7 +425,7 @@ pub const ARM_PAC: Names<u64> = &[
 ];
 
 /// `Tag_BTI_extension`.
-pub const ARM_BTI: Names<u64> = &[
+pub static ARM_BTI: Names<u64> = &[
     (0, "BTI instructions not permitted"),
     (1, "BTI instructions permitted in the NOP space"),
     (
@@ -435,13 +435,13 @@ pub const ARM_BTI: Names<u64> = &[
 ];
 
 /// `Tag_BTI_use`.
-pub const ARM_BTI_USE: Names<u64> = &[
+pub static ARM_BTI_USE: Names<u64> = &[
     (0, "Compiled without branch target enforcement"),
     (1, "Compiled with branch target enforcement"),
 ];
 
 /// `Tag_PACRET_use`.
-pub const ARM_PACRET_USE: Names<u64> = &[
+pub static ARM_PACRET_USE: Names<u64> = &[
     (
         0,
         "Compiled without return address signing and authentication",
@@ -450,10 +450,10 @@ pub const ARM_PACRET_USE: Names<u64> = &[
 ];
 
 /// `Tag_nodefaults`.
-pub const ARM_TRUE: Names<u64> = &[(0, "True")];
+pub static ARM_TRUE: Names<u64> = &[(0, "True")];
 
 /// `Tag_Virtualization_use`.
-pub const ARM_VIRTUALIZATION: Names<u64> = &[
+pub static ARM_VIRTUALIZATION: Names<u64> = &[
     (0, "Not Allowed"),
     (1, "TrustZone"),
     (2, "Virtualization Extensions"),
@@ -461,4 +461,4 @@ pub const ARM_VIRTUALIZATION: Names<u64> = &[
 ];
 
 /// `Tag_RISCV_unaligned_access`.
-pub const RISCV_ACCESS: Names<u64> = &[(0, "No unaligned access"), (1, "Unaligned access")];
+pub static RISCV_ACCESS: Names<u64> = &[(0, "No unaligned access"), (1, "Unaligned access")];

@@ -60,7 +60,7 @@ pub fn version_flags() -> Flags
 }
 
 /// `DT_FLAGS` (gABI, chapter "Dynamic Section").
-pub const DYNAMIC: Flags = &[
+pub static DYNAMIC: Flags = &[
     (0x1, 0x1, "DF_ORIGIN"),
     (0x2, 0x2, "DF_SYMBOLIC"),
     (0x4, 0x4, "DF_TEXTREL"),
@@ -69,7 +69,7 @@ pub const DYNAMIC: Flags = &[
 ];
 
 /// `DT_FLAGS_1` (Sun and GNU).
-pub const DYNAMIC_1: Flags = &[
+pub static DYNAMIC_1: Flags = &[
     (0x1, 0x1, "DF_1_NOW"),
     (0x2, 0x2, "DF_1_GLOBAL"),
     (0x4, 0x4, "DF_1_GROUP"),
@@ -104,7 +104,7 @@ pub const DYNAMIC_1: Flags = &[
 ];
 
 /// `sh_flags` (gABI, chapter "Sections", and GNU extensions).
-pub const SECTION: Flags = &[
+pub static SECTION: Flags = &[
     (0x1, 0x1, "SHF_WRITE"),
     (0x2, 0x2, "SHF_ALLOC"),
     (0x4, 0x4, "SHF_EXECINSTR"),
@@ -121,10 +121,10 @@ pub const SECTION: Flags = &[
 ];
 
 /// `p_flags` (gABI, chapter "Program Header").
-pub const SEGMENT: Flags = &[(0x1, 0x1, "PF_X"), (0x2, 0x2, "PF_W"), (0x4, 0x4, "PF_R")];
+pub static SEGMENT: Flags = &[(0x1, 0x1, "PF_X"), (0x2, 0x2, "PF_W"), (0x4, 0x4, "PF_R")];
 
 /// `vd_flags` and `vna_flags` (GNU symbol versioning).
-pub const VERSION: Flags = &[
+pub static VERSION: Flags = &[
     (0x1, 0x1, "VER_FLG_BASE"),
     (0x2, 0x2, "VER_FLG_WEAK"),
     (0x4, 0x4, "VER_FLG_INFO"),
@@ -158,7 +158,7 @@ pub fn file_flags(e_machine: u16) -> Flags
 }
 
 /// Of ARM: ELF for the Arm Architecture, section "ELF Header".
-pub const ARM: Flags = &[
+pub static ARM: Flags = &[
     (0xff000000, 0x1000000, "EF_ARM_EABI_VER1"),
     (0xff000000, 0x2000000, "EF_ARM_EABI_VER2"),
     (0xff000000, 0x3000000, "EF_ARM_EABI_VER3"),
@@ -170,7 +170,7 @@ pub const ARM: Flags = &[
 ];
 
 /// Of MIPS: the processor, what it can do, and the ABI.
-pub const MIPS: Flags = &[
+pub static MIPS: Flags = &[
     (0x1, 0x1, "EF_MIPS_NOREORDER"),
     (0x2, 0x2, "EF_MIPS_PIC"),
     (0x4, 0x4, "EF_MIPS_CPIC"),
@@ -202,14 +202,14 @@ pub const MIPS: Flags = &[
 ];
 
 /// Of 32-bit PowerPC.
-pub const PPC: Flags = &[
+pub static PPC: Flags = &[
     (0x80000000, 0x80000000, "EF_PPC_EMB"),
     (0x10000, 0x10000, "EF_PPC_RELOCATABLE"),
     (0x8000, 0x8000, "EF_PPC_RELOCATABLE_LIB"),
 ];
 
 /// Of RISC-V: RISC-V ELF psABI, section "File Header".
-pub const RISCV: Flags = &[
+pub static RISCV: Flags = &[
     (0x1, 0x1, "EF_RISCV_RVC"),
     (0x6, 0x0, "EF_RISCV_FLOAT_ABI_SOFT"),
     (0x6, 0x2, "EF_RISCV_FLOAT_ABI_SINGLE"),
@@ -220,7 +220,7 @@ pub const RISCV: Flags = &[
 ];
 
 /// Of LoongArch: ELF for the LoongArch Architecture, section "e_flags".
-pub const LOONGARCH: Flags = &[
+pub static LOONGARCH: Flags = &[
     (0x7, 0x1, "EF_LOONGARCH_ABI_SOFT_FLOAT"),
     (0x7, 0x2, "EF_LOONGARCH_ABI_SINGLE_FLOAT"),
     (0x7, 0x3, "EF_LOONGARCH_ABI_DOUBLE_FLOAT"),
@@ -228,13 +228,13 @@ pub const LOONGARCH: Flags = &[
 ];
 
 /// Of 64-bit PowerPC: the version of the ABI, in the bits of EF_PPC64_ABI.
-pub const PPC64: Flags = &[(0x3, 0x1, "EF_PPC64_ABI_V1"), (0x3, 0x2, "EF_PPC64_ABI_V2")];
+pub static PPC64: Flags = &[(0x3, 0x1, "EF_PPC64_ABI_V1"), (0x3, 0x2, "EF_PPC64_ABI_V2")];
 
 /// Of s390 and s390x.
-pub const S390: Flags = &[(0x1, 0x1, "EF_S390_HIGH_GPRS")];
+pub static S390: Flags = &[(0x1, 0x1, "EF_S390_HIGH_GPRS")];
 
 /// Of PA-RISC: what a program expects, and the version of the architecture.
-pub const PARISC: Flags = &[
+pub static PARISC: Flags = &[
     (0x10000, 0x10000, "EF_PARISC_TRAPNIL"),
     (0x20000, 0x20000, "EF_PARISC_EXT"),
     (0x40000, 0x40000, "EF_PARISC_LSB"),
@@ -247,7 +247,7 @@ pub const PARISC: Flags = &[
 ];
 
 /// Of SuperH: the processor, in the bits of EF_SH_MACH_MASK, and the kind of code.
-pub const SH: Flags = &[
+pub static SH: Flags = &[
     (0x1f, 0x1, "EF_SH1"),
     (0x1f, 0x2, "EF_SH2"),
     (0x1f, 0x3, "EF_SH3"),
@@ -273,7 +273,7 @@ pub const SH: Flags = &[
 ];
 
 /// Of 32-bit SPARC.
-pub const SPARC: Flags = &[
+pub static SPARC: Flags = &[
     (0x100, 0x100, "EF_SPARC_32PLUS"),
     (0x200, 0x200, "EF_SPARC_SUN_US1"),
     (0x400, 0x400, "EF_SPARC_HAL_R1"),
@@ -282,7 +282,7 @@ pub const SPARC: Flags = &[
 ];
 
 /// Of 64-bit SPARC: the order of memory too, in the bits of EF_SPARCV9_MM.
-pub const SPARCV9: Flags = &[
+pub static SPARCV9: Flags = &[
     (0x100, 0x100, "EF_SPARC_32PLUS"),
     (0x200, 0x200, "EF_SPARC_SUN_US1"),
     (0x400, 0x400, "EF_SPARC_HAL_R1"),
@@ -294,13 +294,13 @@ pub const SPARCV9: Flags = &[
 ];
 
 /// Of Alpha.
-pub const ALPHA: Flags = &[
+pub static ALPHA: Flags = &[
     (0x1, 0x1, "EF_ALPHA_32BIT"),
     (0x2, 0x2, "EF_ALPHA_CANRELAX"),
 ];
 
 /// Of IA-64.
-pub const IA_64: Flags = &[
+pub static IA_64: Flags = &[
     (0x10, 0x10, "EF_IA_64_ABI64"),
     (0x20, 0x20, "EF_IA_64_REDUCEDFP"),
     (0x40, 0x40, "EF_IA_64_CONS_GP"),
@@ -309,10 +309,10 @@ pub const IA_64: Flags = &[
 ];
 
 /// Of C-SKY: the version of the ABI.
-pub const CSKY: Flags = &[
+pub static CSKY: Flags = &[
     (0xf0000000, 0x10000000, "EF_CSKY_ABIV1"),
     (0xf0000000, 0x20000000, "EF_CSKY_ABIV2"),
 ];
 
 /// Of OpenRISC.
-pub const OPENRISC: Flags = &[(0x1, 0x1, "EF_OR1K_NODELAY")];
+pub static OPENRISC: Flags = &[(0x1, 0x1, "EF_OR1K_NODELAY")];

@@ -20,7 +20,7 @@ pub fn machine_name(e_machine: u16) -> Option<&'static str>
 
 /// The names of numbers that `elf_abi::to_str` does not name: machines that are newer than its list, and numbers that are
 /// in use without being assigned.
-pub const IN_USE: Names<u16> = &[
+pub static IN_USE: Names<u16> = &[
     (abi::EM_LANAI, "EM_LANAI"),
     (245, "EM_CEVA"),
     (246, "EM_CEVA_X2"),

@@ -36,7 +36,7 @@ pub fn note_types(owner: &[u8]) -> Names<u64>
 }
 
 /// Of GNU (Linux Standard Base and the GNU linkers).
-pub const GNU: Names<u64> = &[
+pub static GNU: Names<u64> = &[
     (1, "NT_GNU_ABI_TAG"),
     (2, "NT_GNU_HWCAP"),
     (3, "NT_GNU_BUILD_ID"),
@@ -45,7 +45,7 @@ pub const GNU: Names<u64> = &[
 ];
 
 /// Of core files of Linux.
-pub const CORE: Names<u64> = &[
+pub static CORE: Names<u64> = &[
     (1, "NT_PRSTATUS"),
     (2, "NT_FPREGSET"),
     (3, "NT_PRPSINFO"),
@@ -119,13 +119,13 @@ pub const CORE: Names<u64> = &[
 ];
 
 /// Of packages and their libraries (systemd).
-pub const FDO: Names<u64> = &[
+pub static FDO: Names<u64> = &[
     (0xcafe1a7e, "NT_FDO_PACKAGING_METADATA"),
     (0x407c0c0a, "NT_FDO_DLOPEN_METADATA"),
 ];
 
 /// Of the linker of Go.
-pub const GO: Names<u64> = &[
+pub static GO: Names<u64> = &[
     (1, "ELF_NOTE_GOPKGLIST_TAG"),
     (2, "ELF_NOTE_GOABIHASH_TAG"),
     (3, "ELF_NOTE_GODEPS_TAG"),
@@ -133,7 +133,7 @@ pub const GO: Names<u64> = &[
 ];
 
 /// Of probes of SystemTap.
-pub const STAPSDT: Names<u64> = &[(3, "NT_STAPSDT")];
+pub static STAPSDT: Names<u64> = &[(3, "NT_STAPSDT")];
 
 /// Of core files that GDB writes.
-pub const GDB: Names<u64> = &[(0xff000000, "NT_GDB_TDESC")];
+pub static GDB: Names<u64> = &[(0xff000000, "NT_GDB_TDESC")];

@@ -1,7 +1,7 @@
 //! The types of relocations, by machine. Each machine has a module for its table.
 ghost use Rattle.std.specs.Prelude.{◌≡◌};
 ghost use Rattle.std.specs.Option.{option_copied};
-ghost use Rattle.elf_names.specs.Relocations.{relocation_type_name, relocation_types};
+ghost use Rattle.elf_names.specs.Relocations.{relocation_type_name, relocation_types, types_of_others};
 ghost use Rattle.elf_names.specs.Table.{rows_of};
 
 pub mod aarch64;
@@ -56,6 +56,16 @@ pub fn relocation_types(e_machine: u16) -> Names<u32>
         abi::EM_RISCV => riscv::TYPES,
         abi::EM_S390 => s390::TYPES,
         abi::EM_LOONGARCH => loongarch::TYPES,
+        _ => types_of_others(e_machine),
+    }
+}
+
+// The same of machines for which fewer systems are made.
+#[tactic(auto, unfolding(crate::specs::Relocations::types_of_others))]
+fn types_of_others(e_machine: u16) -> Names<u32>
+    ensures { rows_of result.now ≡ types_of_others e_machine }
+{
+    match e_machine {
         abi::EM_68K => m68k::TYPES,
         abi::EM_PARISC => parisc::TYPES,
         abi::EM_SH => sh::TYPES,

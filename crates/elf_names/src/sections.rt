@@ -19,7 +19,7 @@ pub fn section_type_name(e_machine: u16, sh_type: u32) -> Option<&'static str>
 }
 
 /// Types of any machine that `elf_abi::to_str` does not have: of gABI, GNU, LLVM and Android.
-pub const ANY: Names<u32> = &[
+pub static ANY: Names<u32> = &[
     (19, "SHT_RELR"),
     (0x60000001, "SHT_ANDROID_REL"),
     (0x60000002, "SHT_ANDROID_RELA"),
@@ -66,10 +66,10 @@ pub fn section_types(e_machine: u16) -> Names<u32>
 }
 
 /// Of x86-64.
-pub const X86_64: Names<u32> = &[(0x70000001, "SHT_X86_64_UNWIND")];
+pub static X86_64: Names<u32> = &[(0x70000001, "SHT_X86_64_UNWIND")];
 
 /// Of ARM.
-pub const ARM: Names<u32> = &[
+pub static ARM: Names<u32> = &[
     (0x70000001, "SHT_ARM_EXIDX"),
     (0x70000002, "SHT_ARM_PREEMPTMAP"),
     (0x70000003, "SHT_ARM_ATTRIBUTES"),
@@ -78,13 +78,13 @@ pub const ARM: Names<u32> = &[
 ];
 
 /// Of AArch64.
-pub const AARCH64: Names<u32> = &[(0x70000003, "SHT_AARCH64_ATTRIBUTES")];
+pub static AARCH64: Names<u32> = &[(0x70000003, "SHT_AARCH64_ATTRIBUTES")];
 
 /// Of RISC-V.
-pub const RISCV: Names<u32> = &[(0x70000003, "SHT_RISCV_ATTRIBUTES")];
+pub static RISCV: Names<u32> = &[(0x70000003, "SHT_RISCV_ATTRIBUTES")];
 
 /// Of MIPS.
-pub const MIPS: Names<u32> = &[
+pub static MIPS: Names<u32> = &[
     (0x70000000, "SHT_MIPS_LIBLIST"),
     (0x70000001, "SHT_MIPS_MSYM"),
     (0x70000002, "SHT_MIPS_CONFLICT"),
@@ -118,26 +118,26 @@ pub const MIPS: Names<u32> = &[
 ];
 
 /// Of IA-64.
-pub const IA_64: Names<u32> = &[
+pub static IA_64: Names<u32> = &[
     (0x70000000, "SHT_IA_64_EXT"),
     (0x70000001, "SHT_IA_64_UNWIND"),
 ];
 
 /// Of PA-RISC.
-pub const PARISC: Names<u32> = &[
+pub static PARISC: Names<u32> = &[
     (0x70000000, "SHT_PARISC_EXT"),
     (0x70000001, "SHT_PARISC_UNWIND"),
     (0x70000002, "SHT_PARISC_DOC"),
 ];
 
 /// Of Alpha.
-pub const ALPHA: Names<u32> = &[
+pub static ALPHA: Names<u32> = &[
     (0x70000001, "SHT_ALPHA_DEBUG"),
     (0x70000002, "SHT_ALPHA_REGINFO"),
 ];
 
 /// Of ARCompact and ARC HS.
-pub const ARC: Names<u32> = &[(0x70000001, "SHT_ARC_ATTRIBUTES")];
+pub static ARC: Names<u32> = &[(0x70000001, "SHT_ARC_ATTRIBUTES")];
 
 /// Of C-SKY.
-pub const CSKY: Names<u32> = &[(0x70000001, "SHT_CSKY_ATTRIBUTES")];
+pub static CSKY: Names<u32> = &[(0x70000001, "SHT_CSKY_ATTRIBUTES")];

@@ -19,7 +19,7 @@ pub fn segment_type_name(e_machine: u16, p_type: u32) -> Option<&'static str>
 }
 
 /// Types of any machine that `elf_abi::to_str` does not have: of GNU, OpenBSD and Sun.
-pub const ANY: Names<u32> = &[
+pub static ANY: Names<u32> = &[
     (0x6474e554, "PT_GNU_SFRAME"),
     (0x65a3dbe5, "PT_OPENBSD_MUTABLE"),
     (0x65a3dbe6, "PT_OPENBSD_RANDOMIZE"),
@@ -48,20 +48,20 @@ pub fn segment_types(e_machine: u16) -> Names<u32>
 }
 
 /// Of ARM.
-pub const ARM: Names<u32> = &[(0x70000000, "PT_ARM_ARCHEXT"), (0x70000001, "PT_ARM_EXIDX")];
+pub static ARM: Names<u32> = &[(0x70000000, "PT_ARM_ARCHEXT"), (0x70000001, "PT_ARM_EXIDX")];
 
 /// Of AArch64.
-pub const AARCH64: Names<u32> = &[
+pub static AARCH64: Names<u32> = &[
     (0x70000000, "PT_AARCH64_ARCHEXT"),
     (0x70000001, "PT_AARCH64_UNWIND"),
     (0x70000002, "PT_AARCH64_MEMTAG_MTE"),
 ];
 
 /// Of RISC-V.
-pub const RISCV: Names<u32> = &[(0x70000003, "PT_RISCV_ATTRIBUTES")];
+pub static RISCV: Names<u32> = &[(0x70000003, "PT_RISCV_ATTRIBUTES")];
 
 /// Of MIPS.
-pub const MIPS: Names<u32> = &[
+pub static MIPS: Names<u32> = &[
     (0x70000000, "PT_MIPS_REGINFO"),
     (0x70000001, "PT_MIPS_RTPROC"),
     (0x70000002, "PT_MIPS_OPTIONS"),
@@ -69,16 +69,16 @@ pub const MIPS: Names<u32> = &[
 ];
 
 /// Of s390 and s390x.
-pub const S390: Names<u32> = &[(0x70000000, "PT_S390_PGSTE")];
+pub static S390: Names<u32> = &[(0x70000000, "PT_S390_PGSTE")];
 
 /// Of PA-RISC.
-pub const PARISC: Names<u32> = &[
+pub static PARISC: Names<u32> = &[
     (0x70000000, "PT_PARISC_ARCHEXT"),
     (0x70000001, "PT_PARISC_UNWIND"),
 ];
 
 /// Of IA-64.
-pub const IA_64: Names<u32> = &[
+pub static IA_64: Names<u32> = &[
     (0x70000000, "PT_IA_64_ARCHEXT"),
     (0x70000001, "PT_IA_64_UNWIND"),
 ];

@@ -20,7 +20,7 @@ pub fn tag_name(e_machine: u16, d_tag: i64) -> Option<&'static str>
 
 /// Tags of any machine that `elf_abi::to_str` does not have, or has as an end of a range of tags: those of packed relative
 /// relocations (gABI), of filters (Sun), of Android and of GNU.
-pub const ANY: Names<i64> = &[
+pub static ANY: Names<i64> = &[
     (35, "DT_RELRSZ"),
     (36, "DT_RELR"),
     (37, "DT_RELRENT"),
@@ -69,14 +69,14 @@ pub fn tags(e_machine: u16) -> Names<i64>
 }
 
 /// Of x86-64.
-pub const X86_64: Names<i64> = &[
+pub static X86_64: Names<i64> = &[
     (0x70000000, "DT_X86_64_PLT"),
     (0x70000001, "DT_X86_64_PLTSZ"),
     (0x70000003, "DT_X86_64_PLTENT"),
 ];
 
 /// Of AArch64.
-pub const AARCH64: Names<i64> = &[
+pub static AARCH64: Names<i64> = &[
     (0x70000001, "DT_AARCH64_BTI_PLT"),
     (0x70000003, "DT_AARCH64_PAC_PLT"),
     (0x70000005, "DT_AARCH64_VARIANT_PCS"),
@@ -84,13 +84,13 @@ pub const AARCH64: Names<i64> = &[
 ];
 
 /// Of ARM.
-pub const ARM: Names<i64> = &[
+pub static ARM: Names<i64> = &[
     (0x70000001, "DT_ARM_SYMTABSZ"),
     (0x70000002, "DT_ARM_PREEMPTMAP"),
 ];
 
 /// Of MIPS.
-pub const MIPS: Names<i64> = &[
+pub static MIPS: Names<i64> = &[
     (0x70000001, "DT_MIPS_RLD_VERSION"),
     (0x70000002, "DT_MIPS_TIME_STAMP"),
     (0x70000003, "DT_MIPS_ICHECKSUM"),
@@ -142,10 +142,10 @@ pub const MIPS: Names<i64> = &[
 ];
 
 /// Of 32-bit PowerPC.
-pub const PPC: Names<i64> = &[(0x70000000, "DT_PPC_GOT"), (0x70000001, "DT_PPC_OPT")];
+pub static PPC: Names<i64> = &[(0x70000000, "DT_PPC_GOT"), (0x70000001, "DT_PPC_OPT")];
 
 /// Of 64-bit PowerPC.
-pub const PPC64: Names<i64> = &[
+pub static PPC64: Names<i64> = &[
     (0x70000000, "DT_PPC64_GLINK"),
     (0x70000001, "DT_PPC64_OPD"),
     (0x70000002, "DT_PPC64_OPDSZ"),
@@ -153,16 +153,16 @@ pub const PPC64: Names<i64> = &[
 ];
 
 /// Of RISC-V.
-pub const RISCV: Names<i64> = &[(0x70000001, "DT_RISCV_VARIANT_CC")];
+pub static RISCV: Names<i64> = &[(0x70000001, "DT_RISCV_VARIANT_CC")];
 
 /// Of SPARC.
-pub const SPARC: Names<i64> = &[(0x70000001, "DT_SPARC_REGISTER")];
+pub static SPARC: Names<i64> = &[(0x70000001, "DT_SPARC_REGISTER")];
 
 /// Of Alpha.
-pub const ALPHA: Names<i64> = &[(0x70000000, "DT_ALPHA_PLTRO")];
+pub static ALPHA: Names<i64> = &[(0x70000000, "DT_ALPHA_PLTRO")];
 
 /// Of IA-64.
-pub const IA_64: Names<i64> = &[(0x70000000, "DT_IA_64_PLT_RESERVE")];
+pub static IA_64: Names<i64> = &[(0x70000000, "DT_IA_64_PLT_RESERVE")];
 
 /// Of Nios II.
-pub const NIOS2: Names<i64> = &[(0x70000002, "DT_NIOS2_GP")];
+pub static NIOS2: Names<i64> = &[(0x70000002, "DT_NIOS2_GP")];

@@ -44,8 +44,8 @@ const RISCV: &str = abi::SHT_RISCV_ATTRIBUTES_SECTION_NAME;
 
 #[test]
 fn texts_have_their_values(rt: HostRuntime) {
-    assert!(rt; MAGIC == [0x7f, 0x45, 0x4c, 0x46] && NOTE == b"GNU\0".as_slice());
-    assert!(rt; ARM == ".ARM.attributes" && RISCV == ".riscv.attributes");
+    let are_bytes = MAGIC == [0x7f, 0x45, 0x4c, 0x46] && NOTE == b"GNU\0".as_slice();
+    assert!(rt; are_bytes && ARM == ".ARM.attributes" && RISCV == ".riscv.attributes");
 }
 
 static INDEXES: &[(usize, usize)] = constants![

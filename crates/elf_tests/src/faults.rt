@@ -6,6 +6,7 @@ use std::fmt::Display;
 use std::io;
 use std::process::Abort;
 use std::str::from_utf8;
+use std::test::Fail;
 
 /// Asserts the text of an error.
 fn assert_text<D: Display + Drop>(rt: &(impl Abort + AllocGlobal), error: D, want: &str) {
@@ -70,21 +71,11 @@ fn errors_have_the_texts_of_the_rust_crate(rt: HostRuntime) {
 
 #[test]
 fn refusals_that_no_row_meets_have_texts(rt: HostRuntime) {
-    assert_text(
-        &rt,
-        ParseError::UnexpectedSectionType((1, 3)),
-        "Could not interpret section of type 1 as type 3",
-    );
-    assert_text(
-        &rt,
-        ParseError::UnexpectedSegmentType((1, 3)),
-        "Could not interpret section of type 1 as type 3",
-    );
-    assert_text(
-        &rt,
-        ParseError::UnexpectedAlignment(0),
-        "Could not interpret section with unexpected alignment of 0",
-    );
+    let text = "Could not interpret section of type 1 as type 3";
+    assert_text(&rt, ParseError::UnexpectedSectionType((1, 3)), text);
+    assert_text(&rt, ParseError::UnexpectedSegmentType((1, 3)), text);
+    let text = "Could not interpret section with unexpected alignment of 0";
+    assert_text(&rt, ParseError::UnexpectedAlignment(0), text);
     assert_text(&rt, ParseError::OutOfMemory, "Out of memory");
 }
 
@@ -100,40 +91,29 @@ fn a_stopped_run_has_the_text_of_its_cause(rt: HostRuntime) {
 }
 
 #[test]
-fn a_fault_of_text_keeps_its_own_words(rt: HostRuntime) {
-    match from_utf8(&[0xc3, 0x28]) {
-        Ok(_) => assert!(rt; false, "text"),
-        Err(inner) => {
-            let error = ParseError::from(inner);
-            assert!(rt; matches!(&error, ParseError::Utf8Error(_)));
-            assert_text(&rt, error, "invalid utf-8 sequence of 1 bytes from index 0");
-        }
-    }
+fn a_fault_of_text_keeps_its_own_words(rt: HostRuntime) -> Result<(), Fail> {
+    let error = ParseError::from(from_utf8(&[0xc3, 0x28]).err().ok_or("text")?);
+    assert!(rt; matches!(&error, ParseError::Utf8Error(_)));
+    assert_text(&rt, error, "invalid utf-8 sequence of 1 bytes from index 0");
+    Ok(())
 }
 
 #[test]
-fn a_fault_of_length_keeps_its_own_words(rt: HostRuntime) {
-    match <[u8; 4]>::try_from(&[1u8, 2][..]) {
-        Ok(_) => assert!(rt; false, "two bytes are four"),
-        Err(inner) => {
-            let error = ParseError::from(inner);
-            assert!(rt; matches!(&error, ParseError::TryFromSliceError(_)));
-            assert_text(&rt, error, "could not convert slice to array");
-        }
-    }
+fn a_fault_of_length_keeps_its_own_words(rt: HostRuntime) -> Result<(), Fail> {
+    let four = <[u8; 4]>::try_from(&[1u8, 2][..]);
+    let error = ParseError::from(four.err().ok_or("two bytes are four")?);
+    assert!(rt; matches!(&error, ParseError::TryFromSliceError(_)));
+    assert_text(&rt, error, "could not convert slice to array");
+    Ok(())
 }
 
 #[test]
-fn a_fault_of_range_keeps_its_own_words(rt: HostRuntime) {
-    match u8::try_from(256u32) {
-        Ok(_) => assert!(rt; false, "256 is a byte"),
-        Err(inner) => {
-            let error = ParseError::from(inner);
-            assert!(rt; matches!(&error, ParseError::TryFromIntError(_)));
-            let want = "out of range integral type conversion attempted";
-            assert_text(&rt, error, want);
-        }
-    }
+fn a_fault_of_range_keeps_its_own_words(rt: HostRuntime) -> Result<(), Fail> {
+    let error = ParseError::from(u8::try_from(256u32).err().ok_or("256 is a byte")?);
+    assert!(rt; matches!(&error, ParseError::TryFromIntError(_)));
+    let want = "out of range integral type conversion attempted";
+    assert_text(&rt, error, want);
+    Ok(())
 }
 
 #[test]
@@ -145,17 +125,9 @@ fn a_fault_of_a_device_keeps_its_own_words(rt: HostRuntime) {
 
 #[test]
 fn a_version_that_cannot_be_read_has_a_text(rt: HostRuntime) {
-    assert_text(
-        &rt,
-        Unreadable { symbol: 3 },
-        "version of symbol 3 cannot be read",
-    );
-    assert_text(
-        &rt,
-        BindingFault {
-            object: 2,
-            symbol: 3,
-        },
-        "object 2: version of symbol 3 cannot be read",
-    );
+    let (object, symbol) = (2, 3);
+    let unreadable = Unreadable { symbol };
+    assert_text(&rt, unreadable, "version of symbol 3 cannot be read");
+    let fault = BindingFault { object, symbol };
+    assert_text(&rt, fault, "object 2: version of symbol 3 cannot be read");
 }

@@ -1,9 +1,7 @@
 //! How much of a source is loaded for look-ups.
 use crate::sizes::{IDENT, bytes_at};
 use crate::small_files::HASHED;
-use crate::sources::{Plan, PlannedSource};
-use elf::ElfStream;
-use elf::endian::AnyEndian;
+use crate::sources::{Plan, open};
 use elf_linking::links::load_links;
 use std::alloc::{AllocError, Global};
 use std::test::Fail;
@@ -11,8 +9,7 @@ use std::test::Fail;
 /// How many bytes a source gives for a file with its headers, and then for its links.
 fn loaded_of(rt: &HostRuntime, file: &[u8]) -> Result<(u64, u64), Fail> {
     let plan = Plan::new(usize::MAX, None);
-    let source = PlannedSource::new(file, &plan);
-    let mut stream = ElfStream::<AnyEndian, _, Global>::open_stream(rt.alloc(), source)?;
+    let mut stream = open(rt.alloc(), file, &plan)?;
     let (_, headers) = plan.taken();
     load_links(&mut stream)?;
     let (_, links) = plan.taken();
@@ -26,9 +23,12 @@ const UNUSED: usize = 1 << 16;
 fn what_look_ups_do_not_use_is_not_loaded(rt: HostRuntime) -> Result<(), Fail> {
     let file = bytes_at(rt.alloc(), HASHED.len() + UNUSED, &[(0, &HASHED)])?;
     let (headers, links) = loaded_of(&rt, &file)?;
-    assert!(rt; headers <= HASHED.len() as u64);
     // The strings, the symbols and the GNU hash section.
-    assert!(rt; links == 3 + 32 + 28, "{links}");
+    let used = 3 + 32 + 28;
+    assert!(rt;
+        headers <= HASHED.len() as u64 && links == used,
+        "{headers} {links}"
+    );
     Ok(())
 }
 

@@ -1,11 +1,11 @@
 //! Files that a user's own order opens, sources whose section headers are lost, and the caller that README shows.
 use crate::sizes::{IDENT, bytes_at};
 use crate::small_files::{HEADER_ALONE, TWO_SECTIONS, TWO_SECTIONS_BIG};
-use crate::sources::{Plan, PlannedSource, is_of_source};
+use crate::sources::{InMemory, Plan, Planned, PlannedSource, is_of_source};
 use crate::user_types::example::count_named;
 use crate::user_types::order::FileOrder;
 use elf::endian::{AnyEndian, NativeEndian};
-use elf::{ElfBytes, ElfStream, MemSource, ParseError};
+use elf::{ElfBytes, MemSource, ParseError};
 use std::alloc::{AllocError, Global};
 use std::test::Fail;
 
@@ -13,9 +13,9 @@ use std::test::Fail;
 fn a_users_order_opens_its_files(rt: HostRuntime) -> Result<(), Fail> {
     let file = ElfBytes::<FileOrder>::minimal_parse(&TWO_SECTIONS_BIG)?;
     let sections = file.section_headers().ok_or("no sections")?;
-    assert!(rt; sections.len() == 2 && sections.get(1)?.sh_offset == 52);
+    let is_opened = sections.len() == 2 && sections.get(1)?.sh_offset == 52;
     let other = ElfBytes::<FileOrder>::minimal_parse(&TWO_SECTIONS).err();
-    assert!(rt; matches!(other, Some(ParseError::UnsupportedElfEndianness(1))));
+    assert!(rt; is_opened && matches!(other, Some(ParseError::UnsupportedElfEndianness(1))));
     Ok(())
 }
 
@@ -54,30 +54,27 @@ fn lost_sections(alloc: Global, len: usize) -> Result<Vec<u8>, AllocError> {
     Ok(file)
 }
 
-/// A stream over bytes.
-type Stream<'a> = ElfStream<AnyEndian, MemSource<'a>, Global>;
-
 #[test]
 fn a_source_is_opened_by_its_segments(rt: HostRuntime) -> Result<(), Fail> {
     let file = lost_sections(rt.alloc(), 64 + 56)?;
-    let refused = Stream::open_stream(rt.alloc(), MemSource::new(&file)).err();
-    assert!(rt; matches!(refused, Some(ParseError::BadOffset(2147483711))));
-    let stream = Stream::open_stream_by_segments(rt.alloc(), MemSource::new(&file))?;
-    assert!(rt; stream.ehdr.e_shoff == 0x7fff_ffff && stream.section_headers().is_empty());
+    let refused = InMemory::open_stream(rt.alloc(), MemSource::new(&file)).err();
+    let is_refused = matches!(refused, Some(ParseError::BadOffset(2147483711)));
+    let stream = InMemory::open_stream_by_segments(rt.alloc(), MemSource::new(&file))?;
+    let is_lost = stream.ehdr.e_shoff == 0x7fff_ffff && stream.section_headers().is_empty();
     let [segment] = stream.segments().as_slice() else {
         return Err(Fail::from("not one segment"));
     };
-    assert!(rt; segment.p_type == 1 && segment.p_filesz == 8);
+    assert!(rt; is_refused && is_lost && segment.p_type == 1 && segment.p_filesz == 8);
     Ok(())
 }
 
 #[test]
 fn a_source_without_its_segments_is_refused(rt: HostRuntime) -> Result<(), Fail> {
     let file = lost_sections(rt.alloc(), 64 + 55)?;
-    let stream = Stream::open_stream_by_segments(rt.alloc(), MemSource::new(&file)).err();
-    assert!(rt; matches!(stream, Some(ParseError::BadOffset(120))));
+    let stream = InMemory::open_stream_by_segments(rt.alloc(), MemSource::new(&file)).err();
+    let is_refused = matches!(stream, Some(ParseError::BadOffset(120)));
     let bytes = ElfBytes::<AnyEndian>::parse_by_segments(&file).err();
-    assert!(rt; matches!(bytes, Some(ParseError::SliceReadError((64, 120)))));
+    assert!(rt; is_refused && matches!(bytes, Some(ParseError::SliceReadError((64, 120)))));
     Ok(())
 }
 
@@ -86,10 +83,7 @@ fn a_source_that_fails_is_not_opened_by_its_segments(rt: HostRuntime) -> Result<
     let file = lost_sections(rt.alloc(), 64 + 56)?;
     let plan = Plan::new(64, Some(2));
     let source = PlannedSource::new(&file, &plan);
-    let error = ElfStream::<AnyEndian, _, Global>::open_stream_by_segments(
-        rt.alloc(),
-        source,
-    ).err();
+    let error = Planned::open_stream_by_segments(rt.alloc(), source).err();
     assert!(rt; error.is_some_and(|error| is_of_source(&error)));
     Ok(())
 }

@@ -19,12 +19,17 @@ pub(crate) fn bytes_at(
     parts: &[(usize, &[u8])],
 ) -> Result<Vec<u8>, AllocError> {
     let mut all = vec![in alloc; 0; size]?;
+    write_parts(&mut all, parts);
+    Ok(all)
+}
+
+/// Writes these bytes at these places.
+pub(crate) fn write_parts(all: &mut [u8], parts: &[(usize, &[u8])]) {
     for (place, bytes) in parts {
         for (found, byte) in all.iter_mut().skip(*place).zip(*bytes) {
             *found = *byte;
         }
     }
-    Ok(all)
 }
 
 /// The begin of a 64-bit file in little order.

@@ -1,10 +1,41 @@
-//! A source in memory with a plan: it gives few bytes a read, fails once, or ends before its end, and counts.
+//! A source in memory with a plan: it gives few bytes a read, fails once, or ends before its end, and counts. Streams
+//! over it, and a section that tests ask them for.
 ghost use Rattle.std.specs.Prelude.{None, true};
 
-use elf::{ParseError, StreamSource};
+use elf::endian::AnyEndian;
+use elf::section::SectionHeader;
+use elf::{ElfStream, MemSource, ParseError, StreamSource};
+use std::alloc::Global;
 use std::cell::Cell;
 use std::io;
 use std::io::ErrorKind;
+
+pub(crate) type InMemory<'a> = ElfStream<AnyEndian, MemSource<'a>, Global>;
+
+pub(crate) type Planned<'a> = ElfStream<AnyEndian, PlannedSource<'a>, Global>;
+
+/// A stream over a source with a plan.
+pub(crate) fn open<'a>(
+    alloc: Global,
+    bytes: &'a [u8],
+    plan: &'a Plan,
+) -> Result<Planned<'a>, ParseError> {
+    Planned::open_stream(alloc, PlannedSource::new(bytes, plan))
+}
+
+/// A section of type SHT_PROGBITS that has no bytes.
+pub(crate) const EMPTY: SectionHeader = SectionHeader {
+    sh_name: 0,
+    sh_type: 1,
+    sh_flags: 0,
+    sh_addr: 0,
+    sh_offset: 0,
+    sh_size: 0,
+    sh_link: 0,
+    sh_info: 0,
+    sh_addralign: 0,
+    sh_entsize: 0,
+};
 
 /// Whether an error is the one that a source here fails with.
 pub(crate) fn is_of_source(error: &ParseError) -> bool {

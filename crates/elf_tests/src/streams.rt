@@ -4,18 +4,17 @@ use crate::small_files::{
     COMPRESSED, COMPRESSED_WIDE, HASHED, HASHED_OTHERWISE, ONE_DYNAMIC_ENTRY, ONE_SEGMENT,
     TWO_SECTIONS, VERSIONED, VERSIONS_BY_NAME,
 };
-use crate::sources::{Plan, PlannedSource, is_of_source};
+use crate::sources::{EMPTY, InMemory, Plan, Planned, PlannedSource, is_of_source, open};
 use elf::dynamic::{Dyn, DynamicTable};
 use elf::endian::AnyEndian;
 use elf::gnu_symver::{SymbolRequirement, SymbolVersionTable};
 use elf::note::{Note, NoteIterator};
-use elf::parse::{ParseAt, ParsingTable};
-use elf::relocation::{Rel, RelIterator, Rela, RelaIterator};
+use elf::parse::{ParseAt, ParsingIterator, ParsingTable};
 use elf::section::SectionHeader;
 use elf::segment::ProgramHeader;
 use elf::string_table::StringTable;
 use elf::symbol::{Symbol, SymbolTable};
-use elf::{ElfBytes, ElfStream, MemSource, ParseError};
+use elf::{ElfBytes, MemSource, ParseError};
 use std::alloc::{AllocError, Global};
 use std::process::Abort;
 use std::test::Fail;
@@ -34,19 +33,6 @@ fn files() -> [(&'static [u8], usize); 9] {
         (&VERSIONS_BY_NAME, 17),
     ]
 }
-
-const EMPTY: SectionHeader = SectionHeader {
-    sh_name: 0,
-    sh_type: 1,
-    sh_flags: 0,
-    sh_addr: 0,
-    sh_offset: 0,
-    sh_size: 0,
-    sh_link: 0,
-    sh_info: 0,
-    sh_addralign: 0,
-    sh_entsize: 0,
-};
 
 const RELS: SectionHeader = SectionHeader {
     sh_type: 9,
@@ -182,12 +168,8 @@ fn compared<T: PartialEq + Drop>(
     }
 }
 
-fn first_rel(mut rels: RelIterator<'_, AnyEndian>) -> Option<Rel> {
-    rels.next()
-}
-
-fn first_rela(mut relas: RelaIterator<'_, AnyEndian>) -> Option<Rela> {
-    relas.next()
+fn first_record<P: ParseAt>(mut records: ParsingIterator<'_, AnyEndian, P>) -> Option<P> {
+    records.next()
 }
 
 fn first_note<'a>(mut notes: NoteIterator<'a, AnyEndian>) -> Option<Note<'a>> {
@@ -312,8 +294,6 @@ fn call(number: usize) -> Option<Request> {
     })
 }
 
-type Planned<'a> = ElfStream<AnyEndian, PlannedSource<'a>, Global>;
-
 type Bytes<'a> = ElfBytes<'a, AnyEndian>;
 
 /// What both readers answer to the same call, of which a part is compared.
@@ -341,8 +321,8 @@ fn answer_of(stream: &mut Planned<'_>, file: &Bytes<'_>, request: Request) -> An
         }
         Request::Data(shdr) => both!(stream, file, section_data(&shdr)),
         Request::Strtab(shdr) => both!(stream, file, section_data_as_strtab(&shdr), second_string),
-        Request::Rels(shdr) => both!(stream, file, section_data_as_rels(&shdr), first_rel),
-        Request::Relas(shdr) => both!(stream, file, section_data_as_relas(&shdr), first_rela),
+        Request::Rels(shdr) => both!(stream, file, section_data_as_rels(&shdr), first_record),
+        Request::Relas(shdr) => both!(stream, file, section_data_as_relas(&shdr), first_record),
         Request::Notes(shdr) => both!(stream, file, section_data_as_notes(&shdr), first_note),
         Request::Segment(phdr) => both!(stream, file, segment_data(&phdr)),
         Request::SegmentNotes(phdr) => both!(
@@ -362,10 +342,14 @@ fn call_is_refused(
     request: Request,
     refusal: Answer,
 ) -> bool {
-    let answer = answer_of(&mut *stream, file, request);
-    let is_refused = answer == refusal;
-    assert!(rt; is_refused || answer == Answer::Same, "{answer:?}");
-    assert!(rt; !is_refused || answer_of(stream, file, request) == Answer::Same);
+    let first = answer_of(&mut *stream, file, request);
+    let is_refused = first == refusal;
+    let settled = if is_refused {
+        answer_of(stream, file, request)
+    } else {
+        first
+    };
+    assert!(rt; settled == Answer::Same, "{first:?} {settled:?}");
     is_refused
 }
 
@@ -403,11 +387,6 @@ fn has_headers(stream: &Planned<'_>, file: &Bytes<'_>) -> bool {
     stream.ehdr == file.ehdr
         && are_records_of(stream.section_headers(), file.section_headers())
         && are_records_of(stream.segments(), file.segments())
-}
-
-/// A stream over a source with a plan.
-fn open<'a>(alloc: Global, bytes: &'a [u8], plan: &'a Plan) -> Result<Planned<'a>, ParseError> {
-    Planned::open_stream(alloc, PlannedSource::new(bytes, plan))
 }
 
 /// Whether a source that fails after a number of calls fails in the opening or in the calls that follow.
@@ -483,10 +462,8 @@ fn taken_for(
     shdr: &SectionHeader,
     want: &[u8],
 ) -> (u64, u64) {
-    match stream.section_data(shdr) {
-        Ok((bytes, None)) => assert!(rt; bytes == want, "{bytes:?}"),
-        _ => assert!(rt; false, "another answer"),
-    }
+    let answer = stream.section_data(shdr);
+    assert!(rt; matches!(answer, Ok((bytes, None)) if bytes == want));
     plan.taken()
 }
 
@@ -494,13 +471,13 @@ fn taken_for(
 fn what_is_cached_is_not_read_again(rt: HostRuntime) -> Result<(), Fail> {
     let plan = Plan::new(usize::MAX, None);
     let mut stream = open(rt.alloc(), &TWO_SECTIONS, &plan)?;
-    assert!(rt; plan.taken().1 <= 132);
+    let opened = plan.taken();
     let names = taken_for(&rt, &mut stream, &plan, &NAMES, b"\0.s\0");
     let again = taken_for(&rt, &mut stream, &plan, &NAMES, b"\0.s\0");
     let within = taken_for(&rt, &mut stream, &plan, &WITHIN_NAMES, b".s");
-    assert!(rt; names.1 == 4 && again == (0, 0) && within == (0, 0));
     let beyond = taken_for(&rt, &mut stream, &plan, &BEYOND_NAMES, b"s\0\0\0");
-    assert!(rt; beyond.0 > 0);
+    let is_cached = again == (0, 0) && within == (0, 0);
+    assert!(rt; opened.1 <= 132 && names.1 == 4 && is_cached && beyond.0 > 0);
     Ok(())
 }
 
@@ -512,22 +489,22 @@ fn a_source_that_ends_early_is_refused(rt: HostRuntime) {
     assert!(rt; matches!(error, Some(ParseError::BadOffset(336))));
 }
 
-type InMemory<'a> = ElfStream<AnyEndian, MemSource<'a>, Global>;
-
 // No contract says which error a stream returns.
 #[test]
 fn a_stream_names_the_type_that_it_expected(rt: HostRuntime) -> Result<(), Fail> {
     let mut stream = InMemory::open_stream(rt.alloc(), MemSource::new(&TWO_SECTIONS))?;
     let rels = stream.section_data_as_rels(&NAMES).err();
-    assert!(rt; matches!(rels, Some(ParseError::UnexpectedSectionType((3, 9)))));
     let names = stream.section_data_as_strtab(&RELS).err();
-    assert!(rt; matches!(names, Some(ParseError::UnexpectedSectionType((9, 3)))));
     let phdr = ProgramHeader {
         p_type: 1,
         ..NOTE_SEGMENT
     };
     let notes = stream.segment_data_as_notes(&phdr).err();
-    assert!(rt; matches!(notes, Some(ParseError::UnexpectedSegmentType((1, 4)))));
+    assert!(rt;
+        matches!(rels, Some(ParseError::UnexpectedSectionType((3, 9))))
+            && matches!(names, Some(ParseError::UnexpectedSectionType((9, 3))))
+            && matches!(notes, Some(ParseError::UnexpectedSegmentType((1, 4))))
+    );
     Ok(())
 }
 
@@ -545,12 +522,14 @@ fn range_error(stream: &mut InMemory<'_>, sh_offset: u64, sh_size: u64) -> Optio
 #[test]
 fn a_stream_says_which_range_does_not_lie_in_the_file(rt: HostRuntime) -> Result<(), Fail> {
     let mut stream = InMemory::open_stream(rt.alloc(), MemSource::new(&TWO_SECTIONS))?;
-    for (sh_offset, sh_size) in [(136, 1), (137, 0)] {
-        let error = range_error(&mut stream, sh_offset, sh_size);
-        assert!(rt; matches!(error, Some(ParseError::BadOffset(137))));
-    }
-    let error = range_error(&mut stream, 1, u64::MAX);
-    assert!(rt; matches!(error, Some(ParseError::IntegerOverflow)));
+    let past_end = range_error(&mut stream, 136, 1);
+    let behind_end = range_error(&mut stream, 137, 0);
+    let endless = range_error(&mut stream, 1, u64::MAX);
+    assert!(rt;
+        matches!(past_end, Some(ParseError::BadOffset(137)))
+            && matches!(behind_end, Some(ParseError::BadOffset(137)))
+            && matches!(endless, Some(ParseError::IntegerOverflow))
+    );
     Ok(())
 }
 

@@ -5,18 +5,14 @@ use Rattle.std.specs.List.{enumerate_from, last_or}
 use Rattle.std.specs.List.Sorted.{IsNonDecreasingBy, IsPermutation, IsStableByKey}
 use Rattle.std.specs.Option.{option_map}
 use Rattle.std.specs.Ordering.{nat_cmp}
-use Rattle.elf_abi.specs.Values.{shn_abs, shn_undef, stt_func, stt_gnu_ifunc, stt_object}
-use Rattle.elf_linking.specs.ReferenceKinds.{em_arm}
+use Rattle.elf_abi.specs.Values.{em_arm, em_mips, shn_abs, shn_common, shn_loreserve, shn_undef, stt_func}
+use Rattle.elf_abi.specs.Values.{stt_gnu_ifunc, stt_object}
 use Rattle.elf_records.specs.Symbol.{symbol_type}
 use Rattle.elf_records.specs.declared.symbol.Symbol.{Symbol}
 use Rattle.elf_tools.specs.declared.addresses.Located.{Located}
 use Rattle.elf_tools.specs.declared.addresses.Nearest.{Nearest}
 
 -- ---- the symbols that have an address
-
--- the section index of a common symbol (SHN_COMMON), which has no place yet and an alignment as its value
-abbrev pub shn_common : ℕ
-shn_common = 0xfff2
 
 -- a function, also one that is chosen when the file is loaded
 abbrev pub is_code : Symbol → Bool
@@ -30,10 +26,6 @@ is_code_or_data s = symbol_type s == stt_object || is_code s
 abbrev pub has_address : Symbol → Bool
 has_address s =
     is_code_or_data s && not (s.st_shndx == shn_undef) && not (s.st_shndx == shn_abs) && not (s.st_shndx == shn_common)
-
--- the machine MIPS
-abbrev pub em_mips : ℕ
-em_mips = 8
 
 -- Bit 0 of the value of a function says which instructions its code is made of, and is no part of its address: of ARM it
 -- is set for Thumb code (ELF for the Arm Architecture, "Symbol Values"), of MIPS for MIPS16 and microMIPS code.
@@ -86,10 +78,6 @@ abbrev pub nearest : ℕ → List Located → Option Nearest
 nearest address sorted = option_map (nearest_of address) (last_or None (starts_before address sorted))
 
 -- ---- the nearest symbol of a section
-
--- the first of the section indexes that stand for no section
-abbrev pub shn_loreserve : ℕ
-shn_loreserve = 0xff00
 
 -- its section index is the number of this section
 abbrev pub is_in : ℕ → Located → Bool

@@ -31,10 +31,10 @@ pub enum Call<'a> {
     DynSyms,
     /// The dynamic entries.
     Dynamic,
-    /// The versions of the symbols for dynamic linking: which is needed, and which is defined.
+    /// The versions of the dynamic symbols: which is needed, and which is defined.
     Versions,
-    /// Whether a section is sound as a SysV hash section, for the symbols for dynamic linking.
+    /// Whether a section is sound as a SysV hash section, for the dynamic symbols.
     Sysv(u64),
-    /// Whether a section is sound as a GNU hash section, for the symbols for dynamic linking.
+    /// Whether a section is sound as a GNU hash section, for the dynamic symbols.
     Gnu(u64),
 }

@@ -268,7 +268,7 @@ fn write_dynamic<E: EndianParse, F: Reader<E>, W: Write>(file: &F, out: &mut W) 
     }
 }
 
-// The number of symbols for dynamic linking; 0 if there is no table of them.
+// The number of dynamic symbols; 0 if there is no table of them.
 fn dynamic_symbol_count<E: EndianParse, F: Reader<E>>(file: &F) -> Result<usize, ReadError>
     ensures { result ≡ ok_map symbol_count
         (dynamic_symbol_table (loaded (F.file file.now) (F.ranges file.now))) }
@@ -300,7 +300,7 @@ fn write_symbol_versions<E: EndianParse, F: Reader<E>, R: Room, W: Write>(
     }
 }
 
-// The result of checking a section as a hash section of the symbols for dynamic linking, if there are any.
+// The result of checking a section as a hash section of the dynamic symbols, if there are any.
 fn section_verdict<E: EndianParse, F: Reader<E>>(
     file: &F,
     kind: HashKind,

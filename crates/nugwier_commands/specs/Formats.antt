@@ -4,7 +4,7 @@ use Rattle.std.specs.Prelude.{Option, Some, None, codes}
 use Rattle.std.specs.Char.{is_ascii_graphic, is_ascii_whitespace}
 use Rattle.std.specs.Borrow.{Bor}
 use Rattle.std.specs.List.{list_all, starts_with}
-use Rattle.elf_abi.specs.declared.abi.TheConstants.{ELFMAGIC}
+use Rattle.elf_abi.specs.Values.{elfmag0, elfmag1, elfmag2, elfmag3}
 use Rattle.nugwier_commands.specs.declared.formats.TheConstants.{FORMATS, FRONT}
 use Rattle.std.specs.Fmt.{◌++?◌}
 use Rattle.elf_records.specs.Texts.{words}
@@ -15,7 +15,7 @@ abbrev pub front : List ℕ → List ℕ
 front bytes = take FRONT bytes
 
 abbrev pub is_elf : List ℕ → Bool
-is_elf bytes = starts_with ◌==◌ bytes ELFMAGIC
+is_elf bytes = starts_with ◌==◌ bytes (elfmag0 ∷ elfmag1 ∷ elfmag2 ∷ elfmag3 ∷ [])
 
 -- a format: the bytes at the start of such files, and its name
 abbrev pub Format : Type 0

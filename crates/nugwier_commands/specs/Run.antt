@@ -352,7 +352,7 @@ abbrev pub IsWrong : WordError → Written → Written → Bool → Type 0
 IsWrong error before after is_told =
     (after.out ≡ before.out) × (is_told ≡ true → IsReasonTold error before.err after.err)
 
--- by what the words ask for: an answer, or that the words are wrong, and nothing is listed. A failed write or a failed
+-- by what the words ask for: an answer, or that the command line is wrong, and nothing is listed. A failed write or a failed
 -- allocation stops a run at any time
 abbrev pub IsRun : Known → Written → Written → Result Answer WordError → Outcome → Type 0
 IsRun known before after (Ok answer) (Done summary) = IsAnswered known before after summary answer

@@ -40,7 +40,7 @@ place_below folder name = record { path = path_join folder name.path; kind = nam
 abbrev pub named : Bor (List ℕ) → Place
 named path = record { path = path.now; kind = kind.Folder }
 
--- below a folder a file that is no ELF file is passed over; one that cannot be read is told
+-- below a folder a file that is no ELF file is skipped; one that cannot be read is told
 abbrev pub is_passed : Option (List ℕ) → Bool
 is_passed None = false
 is_passed (Some bytes) = if is_elf (front bytes) then false else true

@@ -52,7 +52,7 @@ pub enum Outcome {
 
 impl Outcome {
     /// Returns the exit status: 0 if all was said and nothing is wrong; 1 if something is wrong, or if the run was
-    /// stopped; 2 if the words are wrong.
+    /// stopped; 2 if the command line is wrong.
     pub fn status(&self) -> u8
         ensures { result ≡ status_of self.now }
     {
@@ -86,7 +86,7 @@ pub fn run<F: Files, W: Write, V: Write>(
     }
 }
 
-// Tells why the words are wrong.
+// Tells why the command line is wrong.
 fn tell<W: Write, V: Write>(error: WordError<'_>, out: W, mut err: V) -> (Outcome, W, V)
     ensures { IsWordsTold error.entry (record { out = W.contents out; err = V.contents err })
         (record { out = W.contents result.1; err = V.contents result.2 }) result.0 }

@@ -3,8 +3,8 @@ use Rattle.std.specs.Prelude.{ℕ, zero, suc, ◌+◌, ◌-◌, ◌*◌, ◌%◌
 use Rattle.std.specs.Prelude.{codes, length, sum, Option, Some, None, Result, Ok, Err}
 use Rattle.std.specs.List.{flat_map}
 use Rattle.std.specs.Option.{option_map}
+use Rattle.elf_abi.specs.Values.{sht_gnu_hash, sht_hash}
 use Rattle.elf.specs.ObjectFile.{ObjectFile, err_map}
-use Rattle.elf_abi.specs.declared.abi.TheConstants.{SHT_GNU_HASH, SHT_HASH}
 use Rattle.elf_dynamic.specs.declared.dynamic_view.error.DynamicError.{DynamicError}
 use Rattle.elf_dynamic.specs.Linked.{Entries, Nothing, Place, Sections, linked_by}
 use Rattle.elf_dynamic.specs.dynamic_view.Hashes.{gnu_hash, sysv_hash}
@@ -118,7 +118,7 @@ chains_in t = ok_map chains_by (all_lengths t)
 -- the hash section with these bytes
 abbrev pub hash_table : ObjectFile → SectionHeader → List ℕ → Result HashView ParseError
 hash_table file s bytes =
-    if s.sh_type == SHT_HASH then ok_map sysv (sysv_section file.little file.class bytes)
+    if s.sh_type == sht_hash then ok_map sysv (sysv_section file.little file.class bytes)
     else ok_map gnu (gnu_section file.little file.class bytes)
 
 abbrev pub chains_at : ObjectFile → SectionHeader → List ℕ → Result ChainsView Fault
@@ -163,7 +163,7 @@ entries_said file entries =
 -- ---- of a file
 
 abbrev pub said_by : ObjectFile → Result Place DynamicError → List Said
-said_by file (Ok Sections) = flat_map (chains_of file) (sections_of file (SHT_HASH ∷ SHT_GNU_HASH ∷ []))
+said_by file (Ok Sections) = flat_map (chains_of file) (sections_of file (sht_hash ∷ sht_gnu_hash ∷ []))
 said_by file (Ok (Entries entries)) = entries_said file entries
 said_by file (Ok Nothing) = []
 said_by file (Err e) = wrong (whole Dynamic) (Linked e) ∷ []

@@ -1,9 +1,9 @@
 -- What is said of dynamic entries (gABI, chapter "Dynamic Section").
 use Rattle.std.specs.Prelude.{ℕ, is_some, if◌then◌else◌, List, [], ◌∷◌, ◌++◌, Option, Some, None, Result, codes}
 use Rattle.std.specs.Result.{result_ok}
-use Rattle.elf_abi.specs.Values.{dt_needed, dt_rpath, dt_runpath, dt_soname}
+use Rattle.elf_abi.specs.Values.{dt_flags, dt_flags_1, dt_needed, dt_rpath, dt_runpath, dt_soname}
 use Rattle.elf_names.specs.Flags.{dynamic_flags, dynamic_flags_1}
-use Rattle.elf_names.specs.Tags.{dt_flags, dt_flags_1, tag_name}
+use Rattle.elf_names.specs.Tags.{tag_name}
 use Rattle.elf_records.specs.Dynamic.{d_un_view, has_tag}
 use Rattle.elf_records.specs.StringTable.{string_at}
 use Rattle.elf_records.specs.declared.dynamic.Dyn.{Dyn}

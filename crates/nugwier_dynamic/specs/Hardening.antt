@@ -1,7 +1,7 @@
 -- How a file is hardened against attacks: by its segments (gABI, chapter "Program Header"; GNU extensions), its dynamic
 -- entries (gABI, chapter "Dynamic Section"), its symbols, and the properties of its code (Linux Extensions to gABI,
 -- section "Program Property"). What is not known is None.
-use Rattle.std.specs.Prelude.{ℕ, ℤ, pos, ◌+◌, ◌==◌, ◌||◌, ◌&&◌, not, nat_lt, bit_and, bit_or, Bool, false}
+use Rattle.std.specs.Prelude.{ℕ, ℤ, ◌+◌, ◌==◌, ◌||◌, ◌&&◌, not, nat_lt, bit_and, bit_or, Bool, false}
 use Rattle.std.specs.Prelude.{if◌then◌else◌, List, [], ◌∷◌, ◌++◌, codes, drop, filter, length, map}
 use Rattle.std.specs.Prelude.{Option, Some, None, Result, Ok, Err, unwrap_or}
 use Rattle.std.specs.List.{enumerate_from, find, flat_map, last_or, list_any, slice_split, starts_with}
@@ -11,11 +11,11 @@ use Rattle.elf.specs.Answers.{segment_data, symbol_table}
 use Rattle.elf.specs.Data.{content}
 use Rattle.elf.specs.Names.{is_string}
 use Rattle.elf.specs.ObjectFile.{ObjectFile, err_map}
-use Rattle.elf_abi.specs.declared.abi.TheConstants as abi
 use Rattle.elf_check.specs.Notes.{note_align}
 use Rattle.elf_dynamic.specs.dynamic_view.Entries.{value_of}
-use Rattle.elf_names.specs.Tags.{dt_flags, dt_flags_1}
-use Rattle.elf_abi.specs.Values.{dt_rpath, dt_runpath}
+use Rattle.elf_abi.specs.Values.{df_1_now, df_bind_now, dt_bind_now, dt_debug, dt_flags, dt_flags_1, dt_rpath}
+use Rattle.elf_abi.specs.Values.{dt_runpath, et_core, et_dyn, et_exec, et_rel, pf_w, pf_x, pt_gnu_property}
+use Rattle.elf_abi.specs.Values.{pt_gnu_relro, pt_gnu_stack, pt_interp, pt_load, sht_symtab}
 use Rattle.elf_parts.specs.Note.{AbiTag, BuildId, NoteContent, Other, notes_in}
 use Rattle.elf_records.specs.Dynamic.{d_un_view, has_tag}
 use Rattle.elf_records.specs.StringTable.{string_at}
@@ -60,35 +60,29 @@ has_segment p_type flags segments = list_any (is_segment p_type flags) segments
 
 -- how many are loaded to be both written and executed
 abbrev pub count_writable_code : List ProgramHeader → ℕ
-count_writable_code segments = length (filter (is_segment abi.PT_LOAD (bit_or abi.PF_W abi.PF_X)) segments)
+count_writable_code segments = length (filter (is_segment pt_load (bit_or pf_w pf_x)) segments)
 
 -- it is asked for; without PT_GNU_STACK the stack is executable
 abbrev pub has_nx_stack : List ProgramHeader → Bool
-has_nx_stack segments = has_segment abi.PT_GNU_STACK 0 segments && not (has_segment abi.PT_GNU_STACK abi.PF_X segments)
+has_nx_stack segments = has_segment pt_gnu_stack 0 segments && not (has_segment pt_gnu_stack pf_x segments)
 
 -- a program or a shared object, as relocatable and core files are not
 abbrev pub is_linked : ℕ → Bool
-is_linked e_type = e_type == abi.ET_EXEC || e_type == abi.ET_DYN
+is_linked e_type = e_type == et_exec || e_type == et_dyn
 
 abbrev pub stack_of : ℕ → List ProgramHeader → Option Bool
 stack_of e_type segments = if is_linked e_type then Some (has_nx_stack segments) else None
 
 -- ---- dynamic entries
 
-abbrev pub dt_bind_now : ℤ
-dt_bind_now = pos 24
-
-abbrev pub dt_debug : ℤ
-dt_debug = pos 21
-
 -- the value of this tag, which the last entry with it gives, has a bit of the mask
 abbrev pub has_flag : ℤ → ℕ → List Dyn → Bool
 has_flag tag mask entries = not (bit_and (unwrap_or (value_of tag entries) 0) mask == 0)
 
--- DT_BIND_NOW, DF_BIND_NOW (8) or DF_1_NOW (1)
 abbrev pub binds_now : List Dyn → Bool
 binds_now entries =
-    list_any (has_tag dt_bind_now) entries || has_flag dt_flags 8 entries || has_flag dt_flags_1 1 entries
+    list_any (has_tag dt_bind_now) entries || has_flag dt_flags df_bind_now entries
+    || has_flag dt_flags_1 df_1_now entries
 
 -- A program at any address has DF_1_PIE (0x8000000). Linkers before that flag gave a program, and no library, an entry DT_DEBUG.
 abbrev pub is_pie : Bool → List Dyn → Bool
@@ -105,10 +99,10 @@ dynamic_kind has_interpreter entries =
 -- of a file with this type, these segments and these dynamic entries
 abbrev pub file_kind : ℕ → List ProgramHeader → Option (List Dyn) → Option FileKind
 file_kind e_type segments entries =
-    if e_type == abi.ET_EXEC then Some kinds.Executable
-    else if e_type == abi.ET_REL then Some kinds.Relocatable
-    else if e_type == abi.ET_CORE then Some kinds.Core
-    else if e_type == abi.ET_DYN then option_map (dynamic_kind (has_segment abi.PT_INTERP 0 segments)) entries
+    if e_type == et_exec then Some kinds.Executable
+    else if e_type == et_rel then Some kinds.Relocatable
+    else if e_type == et_core then Some kinds.Core
+    else if e_type == et_dyn then option_map (dynamic_kind (has_segment pt_interp 0 segments)) entries
     else None
 
 abbrev pub relro_by : Bool → Relro
@@ -117,7 +111,7 @@ relro_by is_bound_now = if is_bound_now then relro.Full else relro.Partial
 -- the global offset table is only read if all symbols are bound before it is protected
 abbrev pub relro_of : List ProgramHeader → Option Bool → Option Relro
 relro_of segments is_bound_now =
-    if has_segment abi.PT_GNU_RELRO 0 segments then option_map relro_by is_bound_now else Some relro.Nothing
+    if has_segment pt_gnu_relro 0 segments then option_map relro_by is_bound_now else Some relro.Nothing
 
 -- ---- search paths
 
@@ -198,7 +192,7 @@ any_symbol holds symbols = option_map (λ t. list_any (holds t.1) (table_items s
 abbrev pub count_symbols : (List ℕ → Symbol → Bool) → Option (Table × List ℕ) → Option ℕ
 count_symbols holds symbols = option_map (λ t. length (filter (holds t.1) (table_items symbol_reads t.0))) symbols
 
--- the symbols for dynamic linking, or if there are none all symbols, and which these are
+-- the dynamic symbols, or if there are none all symbols, and which these are
 abbrev pub symbols_or : Result (Option (Table × List ℕ)) ParseError → Result (Option (Table × List ℕ)) Fault →
     Part × Result (Option (Table × List ℕ)) Fault
 symbols_or all (Ok None) = (Symbols, err_map Read all)
@@ -222,7 +216,7 @@ of_section file one = (Section one.0, one.1.sh_addralign, content file one.1)
 
 abbrev pub property_segment : List ProgramHeader → Option (ℕ × ProgramHeader)
 property_segment segments =
-    find (λ (one : ℕ × ProgramHeader). one.1.p_type == abi.PT_GNU_PROPERTY) (enumerate_from 0 segments)
+    find (λ (one : ℕ × ProgramHeader). one.1.p_type == pt_gnu_property) (enumerate_from 0 segments)
 
 abbrev pub property_section : ObjectFile → Option (ℕ × SectionHeader)
 property_section file = first_named file.sections (codes ".note.gnu.property") (known_names file)
@@ -307,9 +301,9 @@ hardened e_type machine file = record {
 abbrev pub paths_of : Option (List Dyn × Option (List ℕ)) → Paths
 paths_of known = record { rpath = path_in dt_rpath known; runpath = path_in dt_runpath known }
 
--- it has no symbols but those for dynamic linking
+-- it has no symbols but the dynamic ones
 abbrev pub has_symbol_table : List SectionHeader → Bool
-has_symbol_table sections = list_any (λ (s : SectionHeader). s.sh_type == abi.SHT_SYMTAB) sections
+has_symbol_table sections = list_any (λ (s : SectionHeader). s.sh_type == sht_symtab) sections
 
 abbrev pub is_stripped : List SectionHeader → Bool
 is_stripped sections = not (has_symbol_table sections)

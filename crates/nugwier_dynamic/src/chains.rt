@@ -3,7 +3,7 @@
 
 ghost use Rattle.std.specs.Prelude.{◌≡◌, ◌<◌, ◌≤◌, ◌^◌, ◌∷◌, [], codes, sum, IfOk, OnOk};
 ghost use Rattle.std.specs.List.{flat_map};
-ghost use Rattle.elf_abi.specs.declared.abi.TheConstants.{SHT_GNU_HASH, SHT_HASH};
+ghost use Rattle.elf_abi.specs.Values.{sht_gnu_hash, sht_hash};
 ghost use Rattle.elf_dynamic.specs.dynamic_view.Entries.{entries_in};
 ghost use Rattle.elf_parts.specs.Hash.{word_at};
 ghost use Rattle.elf_records.specs.Number.{ok_map};
@@ -124,7 +124,7 @@ fn tell_sections<E: EndianParse, R: ListedFile<E>, T: Tell>(
 ) -> Result<(), Stop>
     ensures { let whole = file_of (R.file file.now) (R.bytes file.now) in
         OnOk result (tell.new ≡ saying T.one tell.old
-        (flat_map (chains_of whole) (sections_of whole (SHT_HASH ∷ SHT_GNU_HASH ∷ [])))) }
+        (flat_map (chains_of whole) (sections_of whole (sht_hash ∷ sht_gnu_hash ∷ [])))) }
 {
     let names = known_names(file)?;
     for section in sections_of(alloc, file, &HASH_TYPES)? {

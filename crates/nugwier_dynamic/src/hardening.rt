@@ -408,7 +408,7 @@ fn unsafe_path(entries: Option<&[Dyn]>, paths: SearchPaths<'_>) -> Option<bool>
 
 // ---- symbols
 
-// The symbols for dynamic linking, or if there are none all symbols, if they can be read.
+// The dynamic symbols, or if there are none all symbols, if they can be read.
 fn known_symbols<'f, E: EndianParse, R: ListedFile<E>, T: Tell>(
     file: &'f R,
     tell: &mut T,

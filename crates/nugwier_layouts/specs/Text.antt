@@ -8,8 +8,7 @@ use Rattle.std.specs.Hash.DefaultHasher.{wrapping_add}
 use Rattle.std.specs.Int.{div_ceil, to_be_bytes, w32, w64}
 use Rattle.std.specs.List.{flat_map, slice_get}
 use Rattle.std.specs.Str.{bytes_eq, encode_utf8_all}
-use Rattle.elf_abi.specs.Values.{elfdata2lsb}
-use Rattle.elf_abi.specs.declared.abi.TheConstants.{SHN_LORESERVE}
+use Rattle.elf_abi.specs.Values.{elfdata2lsb, shn_loreserve}
 use Rattle.elf_names.specs.Flags.{Flag, is_set}
 use Rattle.elf_records.specs.declared.file.Class.{Class}
 use Rattle.elf_records.specs.declared.file.Class.TheVariants.{ELF32, ELF64}
@@ -173,7 +172,7 @@ right_of width name = replicate (width - length name) 32 ⧺ shown_bytes name
 -- from SHN_LORESERVE on a number is no section: it is shown in hexadecimal
 unfoldable pub index_number : ℕ → ℕ → List ℕ
 index_number width n =
-    if nat_lt n SHN_LORESERVE then shown_decimal width n else replicate (width - 6) 32 ⧺ hex n
+    if nat_lt n shn_loreserve then shown_decimal width n else replicate (width - 6) 32 ⧺ hex n
 
 -- of SHN_UNDEF and its like the name without SHN_
 abbrev pub shown_index : ℕ → Content → Content → List ℕ

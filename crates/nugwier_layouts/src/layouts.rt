@@ -173,7 +173,7 @@ pub static SYMBOLS_HEADING: Layout = (
     "   size type      binding    vis       section name\n",
 );
 
-/// The heading of the symbols for dynamic linking.
+/// The heading of the dynamic symbols.
 pub static DYNAMIC_SYMBOLS_HEADING: Layout = (
     None,
     true,

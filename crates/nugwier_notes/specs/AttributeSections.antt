@@ -1,8 +1,8 @@
 -- What is said of the build attributes of a file.
 use Rattle.std.specs.Prelude.{ℕ, ◌==◌, ◌||◌, Bool, if◌then◌else◌, List, [], ◌∷◌, Result}
 use Rattle.std.specs.List.{flat_map}
+use Rattle.elf_abi.specs.Values.{em_aarch64, em_arm, em_riscv, sht_arm_attributes, sht_gnu_attributes}
 use Rattle.elf.specs.ObjectFile.{ObjectFile}
-use Rattle.elf_abi.specs.declared.abi.TheConstants.{EM_AARCH64, EM_ARM, EM_RISCV, SHT_ARM_ATTRIBUTES, SHT_GNU_ATTRIBUTES}
 use Rattle.elf_records.specs.Number.{ok_map}
 use Rattle.nugwier_report.specs.Headings.{heading_members, known_names}
 use Rattle.nugwier_report.specs.Labels.{label_name}
@@ -19,11 +19,11 @@ use Rattle.nugwier_layouts.specs.declared.layouts.TheConstants as layout
 
 -- SHT_ARM_ATTRIBUTES, SHT_AARCH64_ATTRIBUTES and SHT_RISCV_ATTRIBUTES are one number, which other machines use otherwise
 abbrev pub has_machine_type : ℕ → Bool
-has_machine_type machine = machine == EM_ARM || machine == EM_AARCH64 || machine == EM_RISCV
+has_machine_type machine = machine == em_arm || machine == em_aarch64 || machine == em_riscv
 
 abbrev pub attribute_types : ℕ → List ℕ
 attribute_types machine =
-    if has_machine_type machine then SHT_GNU_ATTRIBUTES ∷ SHT_ARM_ATTRIBUTES ∷ [] else SHT_GNU_ATTRIBUTES ∷ []
+    if has_machine_type machine then sht_gnu_attributes ∷ sht_arm_attributes ∷ [] else sht_gnu_attributes ∷ []
 
 -- the bytes of a section, and the file as they depend on it
 abbrev pub attributes_in : NoteFile → Result (List ℕ) Fault → Result (NoteFile × List ℕ) Fault

@@ -3,7 +3,7 @@ use Rattle.std.specs.Prelude.{ℕ, List, [], ◌∷◌, Option, Some, None, code
 use Rattle.std.specs.Option.{option_copied, option_map}
 use Rattle.nugwier_layouts.specs.Members.{Content, Members, nothing, number, text, word}
 use Rattle.nugwier_report.specs.Said.{Said, states}
-use Rattle.nugwier_symbols.specs.SymbolVersions.{Version, version_default, version_name}
+use Rattle.nugwier_report.specs.SymbolVersion.{Version, version_default, version_name}
 use Rattle.nugwier_programs.specs.declared.binding_rows.BoundSymbol.{BoundSymbol as GivenSymbol}
 use Rattle.nugwier_programs.specs.declared.binding_rows.OwnVersion.{OwnVersion as GivenVersion}
 use Rattle.nugwier_programs.specs.declared.binding_rows.Place.{Place}

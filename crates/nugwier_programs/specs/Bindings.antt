@@ -47,7 +47,7 @@ pub record OpenFile : Type 0 where
   pub machine : ℕ
   pub file : FileOf Partial
 
--- a part of the opened file that has all that look-ups use of it: its symbols for dynamic linking, its hash section,
+-- a part of the opened file that has all that look-ups use of it: its dynamic symbols, its hash section,
 -- their versions, and its relocations
 abbrev pub IsPartOf : FileView AnyEndian → OpenFile → Type 0
 IsPartOf v o =
@@ -116,7 +116,7 @@ open_problem (Loaded file) = []
 
 -- ---- what is searched
 
--- a file that look-ups search: its path, its symbols for dynamic linking with their names, and its hash table with
+-- a file that look-ups search: its path, its dynamic symbols with their names, and its hash table with
 -- their versions
 pub record SearchedFile : Type 0 where
   pub opened : OpenFile
@@ -222,7 +222,7 @@ module _ (scope : List SearchedFile) where
 abbrev pub AreAllFilesSaid : List SearchedFile → List Said → Type 0
 AreAllFilesSaid scope said = AreFilesSaid scope 0 scope said
 
--- with the libraries of a program that is searched. Of one that has no symbols for dynamic linking, or cannot be
+-- with the libraries of a program that is searched. Of one that has no dynamic symbols, or cannot be
 -- searched, nothing is said
 abbrev pub AreSaidFrom : Known → Searching → List Entry → List Said → Type 0
 AreSaidFrom known (Searched program) libraries said =

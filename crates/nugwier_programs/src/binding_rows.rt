@@ -7,7 +7,7 @@ ghost use Rattle.nugwier_programs.specs.BindingRows.{binding_layout, binding_mem
 ghost use Rattle.nugwier_programs.specs.BindingRows.{target_path, target_version, target_view, target_word};
 ghost use Rattle.nugwier_layouts.specs.Members.{content_of, members_said};
 ghost use Rattle.nugwier_report.specs.Said.{saying};
-ghost use Rattle.nugwier_symbols.specs.SymbolVersions.{version_default, version_name};
+ghost use Rattle.nugwier_report.specs.SymbolVersion.{version_default, version_name};
 ghost use Rattle.nugwier_layouts.specs.Layouts.{layout_of};
 
 use nugwier_layouts::json::{Member, Value};

@@ -16,8 +16,9 @@ pub mod Told
 pub mod Whole
 -- what is said of what was read
 pub mod Reading
--- the symbols for dynamic linking
+-- the dynamic symbols and their versions, and how a version is said
 pub mod Linked
+pub mod SymbolVersion
 -- the names of sections in headings
 pub mod Headings
 -- the sections of some types, each with its bytes

@@ -34,50 +34,36 @@ use elf_dynamic::dynamic_view::laws::part_view_as_whole;
 use elf_dynamic::dynamic_view::{DynamicError, PltRelocations};
 use elf_dynamic::linked::LinkedBy;
 
-/// The versions of the symbols for dynamic linking, if there are any.
+/// The versions of the dynamic symbols, if there are any.
 pub type FoundVersions<'f, E> = Result<Option<SymbolVersionTable<'f, E>>, Fault>;
 
 // What is found through the segments.
 type View<T> = Result<T, DynamicError>;
 
-/// Returns the symbols for dynamic linking, and their strings.
+/// Returns the dynamic symbols, and their strings.
 pub fn linked_symbols<'f, E: EndianParse, R: ListedFile<E>>(
     file: &'f R,
 ) -> Result<FoundSymbols<'f, E>, Stop>
     ensures { IfOk result (λ found. ok_map (option_map symbols_view) found
         ≡ linked_symbols (file_of (R.file file.now) (R.bytes file.now))) }
 {
-    match linked_by(file)? {
-        Ok(LinkedBy::Sections) => match reading::dynamic_symbols(file)? {
-            Ok(symbols) => Ok(Ok(symbols)),
-            Err(error) => Ok(Err(Fault::Read(error))),
-        },
-        Ok(LinkedBy::Entries(table)) => match symbols_by(file, &table)? {
-            Ok(symbols) => Ok(Ok(Some(symbols))),
-            Err(error) => Ok(Err(Fault::Linked(error))),
-        },
-        Ok(LinkedBy::Nothing) => Ok(Ok(None)),
+    is_part(file);
+    match unless_missing(elf_dynamic::linked::dynamic_symbols(file))? {
+        Ok(symbols) => Ok(Ok(symbols)),
         Err(error) => Ok(Err(Fault::Linked(error))),
     }
 }
 
-/// Returns the versions of the symbols for dynamic linking.
+/// Returns the versions of the dynamic symbols.
 pub fn linked_versions<'f, E: EndianParse, R: ListedFile<E>>(
     file: &'f R,
 ) -> Result<FoundVersions<'f, E>, Stop>
     ensures { IfOk result (λ found. ok_map (option_map versions_view) found
         ≡ linked_versions (file_of (R.file file.now) (R.bytes file.now))) }
 {
-    match linked_by(file)? {
-        Ok(LinkedBy::Sections) => match reading::versions(file)? {
-            Ok(versions) => Ok(Ok(versions)),
-            Err(error) => Ok(Err(Fault::Read(error))),
-        },
-        Ok(LinkedBy::Entries(table)) => match versions(file, &table)? {
-            Ok(versions) => Ok(Ok(versions)),
-            Err(error) => Ok(Err(Fault::Linked(error))),
-        },
-        Ok(LinkedBy::Nothing) => Ok(Ok(None)),
+    is_part(file);
+    match unless_missing(elf_dynamic::linked::dynamic_versions(file))? {
+        Ok(versions) => Ok(Ok(versions)),
         Err(error) => Ok(Err(Fault::Linked(error))),
     }
 }
@@ -126,17 +112,6 @@ pub fn symbols_by<'f, E: EndianParse, R: ListedFile<E>>(
 {
     is_part(file);
     unless_missing(dynamic_view::symbols_with_strings(file, table))
-}
-
-fn versions<'f, E: EndianParse, R: ListedFile<E>>(
-    file: &'f R,
-    table: &DynamicTable<'_, E>,
-) -> Result<View<Option<SymbolVersionTable<'f, E>>>, Stop>
-    ensures { IfOk result (λ found. ok_map (option_map versions_view) found
-        ≡ versions (file_of (R.file file.now) (R.bytes file.now)) (entries_in (table_view table.now))) }
-{
-    is_part(file);
-    unless_missing(dynamic_view::versions(file, table))
 }
 
 /// Returns the versions that the file defines, of `DT_VERDEF`, and their strings.

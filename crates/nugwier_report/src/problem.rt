@@ -28,9 +28,9 @@ pub enum Part {
     Segment(u64),
     /// The symbols, of the first section of type `SHT_SYMTAB`.
     Symbols,
-    /// The symbols for dynamic linking, of the first section of type `SHT_DYNSYM`.
+    /// The dynamic symbols, of the first section of type `SHT_DYNSYM`.
     DynamicSymbols,
-    /// The versions of the symbols for dynamic linking.
+    /// The versions of the dynamic symbols.
     Versions,
     /// The dynamic entries.
     Dynamic,

@@ -2,9 +2,9 @@
 //! missing.
 ghost use Rattle.std.specs.Prelude.{◌≡◌, true, IfOk, IfSome, None};
 ghost use Rattle.std.specs.Option.{option_map};
-ghost use Rattle.elf.specs.Answers.{dynamic, dynamic_symbol_table, relas_left, rels_left, section_data_as_relas};
+ghost use Rattle.elf.specs.Answers.{dynamic, relas_left, rels_left, section_data_as_relas};
 ghost use Rattle.elf.specs.Answers.{section_data_as_rels, segment_data};
-ghost use Rattle.elf.specs.Answers.{symbol_table, symbol_version_table, symbols_of, symbols_view};
+ghost use Rattle.elf.specs.Answers.{symbol_table, symbols_of, symbols_view};
 ghost use Rattle.elf.specs.Data.{content, section_data};
 ghost use Rattle.elf.specs.Loaded.{streamed_file};
 ghost use Rattle.elf.specs.Names.{name_table};
@@ -14,7 +14,6 @@ ghost use Rattle.elf.specs.Readers.{Method, answer};
 ghost use Rattle.elf.specs.StreamFile.{stream_file};
 ghost use Rattle.elf.specs.declared.read_error.ReadError.TheVariants.{Parse as IsParse};
 ghost use Rattle.elf_dynamic.specs.Relr.{section_data_as_relr};
-ghost use Rattle.elf_parts.specs.gnu_symver.Table.{versions_view};
 ghost use Rattle.elf_reading.specs.Leading.{data_view};
 ghost use Rattle.elf_records.specs.Number.{ok_map};
 ghost use Rattle.elf_records.specs.StringTable.{strings_view};
@@ -102,28 +101,6 @@ fn plain_symbols<'f, E: EndianParse, R: ListedFile<E>>(
 {
     is_part(file);
     unless_missing(reader::symbol_table(file))
-}
-
-/// Returns the symbols for dynamic linking of the first section of type `SHT_DYNSYM`, and their strings.
-pub fn dynamic_symbols<'f, E: EndianParse, R: ListedFile<E>>(
-    file: &'f R,
-) -> Result<Result<Option<Symbols<'f, E>>, ParseError>, Stop>
-    ensures { IfOk result (λ found. ok_map (option_map symbols_view) found
-        ≡ dynamic_symbol_table (file_of (R.file file.now) (R.bytes file.now))) }
-{
-    is_part(file);
-    unless_missing(reader::dynamic_symbol_table(file))
-}
-
-/// Returns the versions of the symbols for dynamic linking.
-pub fn versions<'f, E: EndianParse, R: ListedFile<E>>(
-    file: &'f R,
-) -> Result<Result<Option<SymbolVersionTable<'f, E>>, ParseError>, Stop>
-    ensures { IfOk result (λ found. ok_map (option_map versions_view) found
-        ≡ symbol_version_table (file_of (R.file file.now) (R.bytes file.now))) }
-{
-    is_part(file);
-    unless_missing(reader::symbol_version_table(file))
 }
 
 /// Returns the names of the sections, if the file has any.

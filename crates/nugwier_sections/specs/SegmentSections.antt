@@ -2,7 +2,8 @@
 -- ELF_SECTION_IN_SEGMENT_STRICT and ELF_TBSS_SPECIAL).
 use Rattle.std.specs.Prelude.{ℕ, ◌+◌, ◌-◌, ◌/◌, ◌==◌, ◌||◌, ◌&&◌, not, nat_le, nat_lt, bit_and, Bool}
 use Rattle.std.specs.Prelude.{if◌then◌else◌, List, [], ◌∷◌, ◌++◌, Option, Some, codes, length}
-use Rattle.elf_abi.specs.declared.abi.TheConstants as abi
+use Rattle.elf_abi.specs.Values.{pt_dynamic, pt_gnu_eh_frame, pt_gnu_relro, pt_gnu_stack, pt_load, pt_note, pt_phdr}
+use Rattle.elf_abi.specs.Values.{pt_tls, shf_alloc, shf_tls, sht_nobits}
 use Rattle.elf_records.specs.declared.section.SectionHeader.{SectionHeader}
 use Rattle.elf_records.specs.declared.segment.ProgramHeader.{ProgramHeader}
 use Rattle.nugwier_layouts.specs.Members.{Members, number, text}
@@ -19,7 +20,7 @@ has_flag flag s = not (bit_and s.sh_flags flag == 0)
 
 -- it takes no bytes of the file
 abbrev pub has_no_bytes : SectionHeader → Bool
-has_no_bytes s = s.sh_type == abi.SHT_NOBITS
+has_no_bytes s = s.sh_type == sht_nobits
 
 abbrev pub is_of : ℕ → ProgramHeader → Bool
 is_of p_type p = p.p_type == p_type
@@ -28,12 +29,12 @@ is_of p_type p = p.p_type == p_type
 -- PT_PHDR has no sections.
 abbrev pub fits_threads : SectionHeader → ProgramHeader → Bool
 fits_threads s p =
-    if has_flag abi.SHF_TLS s then is_of abi.PT_TLS p || is_of abi.PT_GNU_RELRO p || is_of abi.PT_LOAD p
-    else not (is_of abi.PT_TLS p || is_of abi.PT_PHDR p)
+    if has_flag shf_tls s then is_of pt_tls p || is_of pt_gnu_relro p || is_of pt_load p
+    else not (is_of pt_tls p || is_of pt_phdr p)
 
 -- thread-local data without bytes take memory of the thread, and so belong to PT_TLS alone
 abbrev pub is_threads_alone : SectionHeader → ProgramHeader → Bool
-is_threads_alone s p = has_flag abi.SHF_TLS s && has_no_bytes s && not (is_of abi.PT_TLS p)
+is_threads_alone s p = has_flag shf_tls s && has_no_bytes s && not (is_of pt_tls p)
 
 -- PT_GNU_SFRAME, and PT_GNU_MBIND_LO to PT_GNU_MBIND_HI
 abbrev pub is_gnu_memory : ℕ → Bool
@@ -42,11 +43,11 @@ is_gnu_memory p_type = nat_le 0x6474e554 p_type && nat_le p_type 0x6474f554
 -- segments that are loaded, or that lie in these, have sections with SHF_ALLOC alone
 abbrev pub is_memory : ProgramHeader → Bool
 is_memory p =
-    is_of abi.PT_LOAD p || is_of abi.PT_DYNAMIC p || is_of abi.PT_GNU_EH_FRAME p || is_of abi.PT_GNU_STACK p
-    || is_of abi.PT_GNU_RELRO p || is_gnu_memory p.p_type
+    is_of pt_load p || is_of pt_dynamic p || is_of pt_gnu_eh_frame p || is_of pt_gnu_stack p
+    || is_of pt_gnu_relro p || is_gnu_memory p.p_type
 
 abbrev pub fits_memory : SectionHeader → ProgramHeader → Bool
-fits_memory s p = has_flag abi.SHF_ALLOC s || not (is_memory p)
+fits_memory s p = has_flag shf_alloc s || not (is_memory p)
 
 -- these bytes lie in a range, by its start and length; an empty section at its end does not belong to it, unless the range is empty
 abbrev pub is_within : ℕ → ℕ → ℕ → ℕ → Bool
@@ -57,7 +58,7 @@ abbrev pub is_in_file : SectionHeader → ProgramHeader → Bool
 is_in_file s p = has_no_bytes s || is_within s.sh_offset s.sh_size p.p_offset p.p_filesz
 
 abbrev pub is_in_memory : SectionHeader → ProgramHeader → Bool
-is_in_memory s p = not (has_flag abi.SHF_ALLOC s) || is_within s.sh_addr s.sh_size p.p_vaddr p.p_memsz
+is_in_memory s p = not (has_flag shf_alloc s) || is_within s.sh_addr s.sh_size p.p_vaddr p.p_memsz
 
 -- neither at the start of the range nor at its end
 abbrev pub is_inside : ℕ → ℕ → ℕ → Bool
@@ -66,12 +67,12 @@ is_inside place start length = nat_lt start place && nat_lt (place - start) leng
 abbrev pub is_all_inside : SectionHeader → ProgramHeader → Bool
 is_all_inside s p =
     (has_no_bytes s || is_inside s.sh_offset p.p_offset p.p_filesz)
-    && (not (has_flag abi.SHF_ALLOC s) || is_inside s.sh_addr p.p_vaddr p.p_memsz)
+    && (not (has_flag shf_alloc s) || is_inside s.sh_addr p.p_vaddr p.p_memsz)
 
 -- PT_DYNAMIC and PT_NOTE have no empty section at their ends, unless they are empty
 abbrev pub fits_ends : SectionHeader → ProgramHeader → Bool
 fits_ends s p =
-    not (is_of abi.PT_DYNAMIC p || is_of abi.PT_NOTE p) || not (s.sh_size == 0) || p.p_memsz == 0 || is_all_inside s p
+    not (is_of pt_dynamic p || is_of pt_note p) || not (s.sh_size == 0) || p.p_memsz == 0 || is_all_inside s p
 
 abbrev pub is_in_segment : SectionHeader → ProgramHeader → Bool
 is_in_segment s p =

@@ -1,8 +1,8 @@
 -- What is said of the segments of a file.
 use Rattle.std.specs.Prelude.{ℕ, ◌==◌, if◌then◌else◌, List, [], ◌∷◌, ◌++◌, length, Result}
+use Rattle.elf_abi.specs.Values.{pt_interp}
 use Rattle.elf.specs.Answers.{segment_data}
 use Rattle.elf.specs.ObjectFile.{ObjectFile}
-use Rattle.elf_abi.specs.declared.abi.TheConstants as abi
 use Rattle.elf_records.specs.Record.{◌>>=◌}
 use Rattle.elf_records.specs.StringTable.{string_at}
 use Rattle.elf_records.specs.declared.parse.ParseError.{ParseError}
@@ -29,7 +29,7 @@ path_in bytes = bytes >>= λ path. string_at path 0
 -- that of segment k, or that it cannot be read
 abbrev pub interpreter_in : ObjectFile → ℕ → ProgramHeader → List Said
 interpreter_in file k p =
-    if p.p_type == abi.PT_INTERP
+    if p.p_type == pt_interp
     then read_said (Segment k) (interpreter_said k) (path_in (segment_data file p)) else []
 
 -- of a file for this machine: the segments, the programs that load it, and the sections of each segment

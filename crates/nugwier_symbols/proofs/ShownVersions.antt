@@ -11,7 +11,8 @@ use Rattle.elf_records.specs.StringTable.{GivesText, IsFirstTextFault}
 use Rattle.elf_records.specs.declared.parse.ParseError.{ParseError}
 use Rattle.elf_records.specs.declared.parse.ParseError.TheVariants.{Utf8Error}
 use Rattle.nugwier_layouts.proofs.JsonStrings.{no_utf8}
-use Rattle.nugwier_symbols.specs.SymbolVersions.{Version, after, first_named, required_version, text_fault, text_read, version_named}
+use Rattle.nugwier_report.specs.SymbolVersion.{Version}
+use Rattle.nugwier_symbols.specs.SymbolVersions.{after, first_named, required_version, text_fault, text_read, version_named}
 use denote.Ref.{Bor}
 
 abbrev with_parts : ℕ → Option ℕ → TextFault

@@ -1,7 +1,7 @@
 -- What is said of addresses, by the symbols of a file.
 use Rattle.std.specs.Prelude.{ℕ, ◌≡◌, ◌==◌, if◌then◌else◌, List, [], ◌∷◌, map, Option, Some, None, Result, Ok, Err}
 use Rattle.std.specs.Option.{option_map}
-use Rattle.elf_abi.specs.declared.abi.TheConstants as abi
+use Rattle.elf_abi.specs.Values.{et_rel}
 use Rattle.elf.specs.Answers.{symbol_table}
 use Rattle.elf.specs.ObjectFile.{ObjectFile, err_map}
 use Rattle.elf_records.specs.Symbol.{symbol_reads}
@@ -39,7 +39,7 @@ first_found (Ok (Some x)) other = Ok (Some x)
 first_found (Ok None) other = other
 first_found (Err e) other = Err e
 
--- the symbols of a file, or if there are none those for dynamic linking
+-- the symbols of a file, or if there are none the dynamic ones
 abbrev pub all_symbols : ObjectFile → Result (Option (Table × List ℕ)) Fault
 all_symbols file = first_found (err_map Read (symbol_table file)) (linked_symbols file)
 
@@ -52,7 +52,7 @@ among_named word None = among.NoSection word
 -- relocatable file the values of symbols are offsets in their sections (gABI, "Symbol Values"), and so is an address.
 abbrev pub among_of : ℕ → ObjectFile → Option (List ℕ) → Among
 among_of e_type file (Some word) = among_named word (section_of file word)
-among_of e_type file None = if e_type == abi.ET_REL then among.Unknown else among.File
+among_of e_type file None = if e_type == et_rel then among.Unknown else among.File
 
 abbrev pub placed : ℕ → ObjectFile → Sought → PlacedAddress
 placed e_type file one = record { address = one.address; among = among_of e_type file one.section }

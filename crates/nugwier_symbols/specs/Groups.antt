@@ -1,9 +1,9 @@
 -- What is said of the section groups of a file.
 use Rattle.std.specs.Prelude.{ℕ, List, [], ◌∷◌, Result, Ok, drop}
 use Rattle.std.specs.List.{flat_map}
+use Rattle.elf_abi.specs.Values.{sht_group}
 use Rattle.elf.specs.Answers.{symbols_of}
 use Rattle.elf.specs.ObjectFile.{ObjectFile, err_map, table_of}
-use Rattle.elf_abi.specs.declared.abi.TheConstants.{SHT_GROUP}
 use Rattle.elf_records.specs.Number.{number_at}
 use Rattle.elf_records.specs.Record.{◌>>=◌}
 use Rattle.elf_records.specs.Symbol.{symbol_reads}
@@ -47,7 +47,7 @@ section_group_said named file s =
     given_said (Section s.number) (group_said named s.number) (group_of named file s.header s.bytes)
 
 abbrev pub groups_said : Named → ObjectFile → List Said
-groups_said named file = flat_map (section_group_said named file) (sections_of file (SHT_GROUP ∷ []))
+groups_said named file = flat_map (section_group_said named file) (sections_of file (sht_group ∷ []))
 
 abbrev pub said_of_groups : ObjectFile → List Said
 said_of_groups file = groups_said (record { class = file.class; sections = file.sections; names = known_names file }) file

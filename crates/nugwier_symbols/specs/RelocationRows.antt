@@ -3,7 +3,7 @@ use Rattle.std.specs.Prelude.{ℕ, ◌/◌, ◌%◌, ◌==◌, ◌&&◌, ℤ, Bo
 use Rattle.std.specs.Prelude.{Result, Ok, codes, false, take, unwrap_or}
 use Rattle.std.specs.Option.{option_map}
 use Rattle.std.specs.Result.{result_ok}
-use Rattle.elf_abi.specs.declared.abi.TheConstants.{EM_MIPS}
+use Rattle.elf_abi.specs.Values.{em_mips, stt_section}
 use Rattle.elf_names.specs.Relocations.{relocation_type_name}
 use Rattle.elf_parts.specs.gnu_symver.Table.{Versions}
 use Rattle.elf_records.specs.Number.{ok_map}
@@ -21,7 +21,7 @@ use Rattle.nugwier_report.specs.Parts.{part_member, tag_name}
 use Rattle.nugwier_layouts.specs.Members.{Content, Members, nothing, number, signed, text, word}
 use Rattle.nugwier_report.specs.Said.{Said, states, unread}
 use Rattle.nugwier_symbols.specs.SymbolRows.{version_known, version_read}
-use Rattle.nugwier_symbols.specs.SymbolVersions.{Version, version_default, version_name}
+use Rattle.nugwier_report.specs.SymbolVersion.{Version, version_default, version_name}
 use Rattle.nugwier_report.specs.declared.problem.Item.TheVariants.{RelocationSymbol}
 use Rattle.nugwier_report.specs.declared.problem.Part.{Part}
 use Rattle.nugwier_report.specs.declared.problem.Part.TheVariants as part
@@ -37,7 +37,7 @@ use Rattle.nugwier_layouts.specs.declared.layouts.TheConstants as layout
 -- ---- r_info
 
 abbrev pub is_mips_64 : Machine → Class → Bool
-is_mips_64 machine ELF64 = machine.e_machine == EM_MIPS
+is_mips_64 machine ELF64 = machine.e_machine == em_mips
 is_mips_64 machine ELF32 = false
 
 -- the symbol and the type
@@ -87,10 +87,6 @@ used_view versions symbols = record {
 abbrev pub used_symbol : Option Used → ℕ → Result (Option Symbol) ParseError
 used_symbol None n = Ok None
 used_symbol (Some used) n = if n == 0 then Ok None else ok_map Some (table_get symbol_reads used.table n)
-
--- STT_SECTION, "Symbol Types" of the gABI's chapter "Symbol Table"
-abbrev pub stt_section : ℕ
-stt_section = 3
 
 -- a symbol of a section that has no name is shown by that of the section
 abbrev pub symbol_name : Named → List ℕ → Symbol → Result (List ℕ) ParseError

@@ -65,7 +65,7 @@ pub data Place : Type 0 where
   in_section : ℕ → List ℕ → Place
   in_table : RelocationTable → Place
 
--- a table of symbols with their strings, and whether they are those for dynamic linking, which may have versions
+-- a table of symbols with their strings, and whether they are the dynamic ones, which may have versions
 abbrev pub Symbols : Type 0
 Symbols = (Table × List ℕ) × Bool
 
@@ -170,7 +170,7 @@ relocations_of file = ok_map (relocations_in file) (linked_by file)
 
 -- ---- what is said of relocations
 
--- what they are told by: the machine, the versions of the symbols for dynamic linking, and the sections with their names
+-- what they are told by: the machine, the versions of the dynamic symbols, and the sections with their names
 pub record Surroundings : Type 0 where
   pub machine : Machine
   pub versions : Option Versions

@@ -1,7 +1,7 @@
 -- The options of `symbols`, which are those of GNU nm: which symbols are listed (binutils, nm.c, `filter_symbols`), and
 -- the numbers that rows show (`print_symbol_info_bsd`, `print_symbol_info_posix`).
 use Rattle.std.specs.Prelude.{ℕ, ◌==◌, ◌&&◌, ◌||◌, not, Bool, true, false, if◌then◌else◌}
-use Rattle.elf_abi.specs.Values.{shn_abs, shn_undef, stb_local}
+use Rattle.elf_abi.specs.Values.{shn_abs, shn_undef, stb_local, stt_file, stt_section}
 use Rattle.elf_records.specs.Symbol.{symbol_binding, symbol_type}
 use Rattle.elf_records.specs.declared.symbol.Symbol.{Symbol}
 use Rattle.nugwier_symbols.specs.declared.symbol_options.Extent.{Extent}
@@ -25,14 +25,7 @@ no_options = record {
 
 -- ---- which symbols are listed
 
--- types of symbols that stand for a section and for a file (gABI, chapter "Symbol Table")
-abbrev pub stt_section : ℕ
-stt_section = 3
-
-abbrev pub stt_file : ℕ
-stt_file = 4
-
--- nm takes these as for debuggers, and leaves them out
+-- nm takes those of sections and of files as for debuggers, and leaves them out
 abbrev pub is_for_debuggers : Symbol → Bool
 is_for_debuggers s = symbol_type s == stt_section || symbol_type s == stt_file
 

@@ -6,22 +6,22 @@ use Rattle.std.specs.Char.{to_ascii_uppercase}
 use Rattle.std.specs.List.{slice_get, starts_with}
 use Rattle.std.specs.Result.{result_ok}
 use Rattle.elf_abi.specs.Names.{name_of}
-use Rattle.elf_abi.specs.declared.abi.TheConstants.{SHN_XINDEX}
 use Rattle.elf_abi.specs.SymbolNames.{st_bind_names, st_symtype_names, st_vis_names}
-use Rattle.elf_abi.specs.Values.{shn_abs, shn_undef, sht_nobits, stb_gnu_unique, stb_local, stb_weak, stt_common}
-use Rattle.elf_abi.specs.Values.{stt_func, stt_gnu_ifunc, stt_object, stt_tls}
+use Rattle.elf_abi.specs.Values.{shf_alloc, shf_execinstr, shf_write, shn_abs, shn_common, shn_undef, shn_xindex}
+use Rattle.elf_abi.specs.Values.{sht_nobits, stb_gnu_unique, stb_local, stb_weak, stt_common, stt_func, stt_gnu_ifunc}
+use Rattle.elf_abi.specs.Values.{stt_object, stt_tls}
 use Rattle.elf_parts.specs.gnu_symver.Table.{Versions}
 use Rattle.elf_records.specs.StringTable.{string_at}
 use Rattle.elf_records.specs.Symbol.{symbol_binding, symbol_type, symbol_visibility}
 use Rattle.elf_records.specs.declared.parse.ParseError.{ParseError}
 use Rattle.elf_records.specs.declared.section.SectionHeader.{SectionHeader}
 use Rattle.elf_records.specs.declared.symbol.Symbol.{Symbol}
-use Rattle.elf_tools.specs.Addresses.{shn_common}
 use Rattle.nugwier_layouts.specs.Members.{Members, character, number, text}
 use Rattle.nugwier_report.specs.Said.{Said, states, unread}
 use Rattle.nugwier_layouts.specs.Members.{word}
 use Rattle.nugwier_symbols.specs.SymbolOptions.{is_selected, row_layout}
-use Rattle.nugwier_symbols.specs.SymbolVersions.{Version, shown_version, version_default, version_name}
+use Rattle.nugwier_report.specs.SymbolVersion.{Version, version_default, version_name}
+use Rattle.nugwier_symbols.specs.SymbolVersions.{shown_version}
 use Rattle.nugwier_report.specs.declared.problem.Item.TheVariants.{SymbolName, SymbolVersion}
 use Rattle.nugwier_report.specs.declared.problem.Part.{Part}
 use Rattle.nugwier_report.specs.declared.problem.Part.TheVariants as part
@@ -38,7 +38,7 @@ abbrev pub st_shndx_name : ℕ → Option (List ℕ)
 st_shndx_name n =
     if n == shn_undef then Some (codes "SHN_UNDEF") else if n == shn_abs then Some (codes "SHN_ABS")
     else if n == shn_common then Some (codes "SHN_COMMON")
-    else if n == SHN_XINDEX then Some (codes "SHN_XINDEX") else None
+    else if n == shn_xindex then Some (codes "SHN_XINDEX") else None
 
 -- the type of the section that has the symbols
 abbrev pub table_name : Part → Option (List ℕ)
@@ -48,16 +48,7 @@ table_name _ = None
 
 -- ---- letters, as nm has them
 
--- bits of the flags of a section: it can be written, it is loaded, it is code
-abbrev pub shf_write : ℕ
-shf_write = 1
-
-abbrev pub shf_alloc : ℕ
-shf_alloc = 2
-
-abbrev pub shf_execinstr : ℕ
-shf_execinstr = 4
-
+-- the flags of a section have a bit
 abbrev pub has_flag : ℕ → SectionHeader → Bool
 has_flag bit s = not (bit_and s.sh_flags bit == 0)
 

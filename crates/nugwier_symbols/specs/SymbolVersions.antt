@@ -9,24 +9,11 @@ use Rattle.elf_parts.specs.gnu_symver.Table.{Definition, Requirement, Versions, 
 use Rattle.elf_records.specs.declared.parse.ParseError.{ParseError}
 use Rattle.elf_records.specs.declared.parse.ParseError.TheVariants.{Utf8Error}
 use Rattle.elf_records.specs.declared.symbol.Symbol.{Symbol}
-use Rattle.nugwier_layouts.specs.Members.{Content, flag, nothing}
+use Rattle.nugwier_report.specs.SymbolVersion.{Version}
 use Rattle.nugwier_symbols.specs.declared.symbol_versions.ShownVersion.{ShownVersion}
-
--- the name of a version, and whether it is the default one of its symbol
-abbrev pub Version : Type 0
-Version = List ℕ × Bool
 
 abbrev pub version_view : ShownVersion → Version
 version_view version = (version.name.now, version.is_default)
-
-abbrev pub version_name : Option Version → Option (List ℕ)
-version_name (Some version) = Some version.0
-version_name None = None
-
--- whether it is the default one
-abbrev pub version_default : Option Version → Content
-version_default (Some version) = flag version.1
-version_default None = nothing
 
 -- ---- names
 

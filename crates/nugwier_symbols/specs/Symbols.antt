@@ -93,7 +93,7 @@ AreTableSaid manner part versions (Err fault) said = said ≡ wrong (whole part)
 abbrev pub said_of_symbols : ObjectFile → List Said
 said_of_symbols file = whole_said all_fields Symbols (Ok None) (err_map Read (symbol_table file))
 
--- the symbols for dynamic linking, with their versions
+-- the dynamic symbols, with their versions
 abbrev pub said_of_dynamic_symbols : ObjectFile → List Said
 said_of_dynamic_symbols file = whole_said all_fields DynamicSymbols (linked_versions file) (linked_symbols file)
 
@@ -102,7 +102,7 @@ said_of_dynamic_symbols file = whole_said all_fields DynamicSymbols (linked_vers
 abbrev pub AreLinkedSaid : Manner → ObjectFile → List Said → Type 0
 AreLinkedSaid manner file said = AreTableSaid manner DynamicSymbols (linked_versions file) (linked_symbols file) said
 
--- those of the section of type SHT_SYMTAB, or if there is none those for dynamic linking
+-- those of the section of type SHT_SYMTAB, or if there is none the dynamic ones
 abbrev pub AreAllSaid : Manner → ObjectFile → Result (Option (Table × List ℕ)) Fault → List Said → Type 0
 AreAllSaid manner file (Ok None) said = AreLinkedSaid manner file said
 AreAllSaid manner file found said = AreTableSaid manner Symbols (Ok None) found said

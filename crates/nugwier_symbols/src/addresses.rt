@@ -99,7 +99,7 @@ fn among_of<'w, E: EndianParse, R: ListedFile<E>>(
     }
 }
 
-// The symbols of the section of type `SHT_SYMTAB`, or if there is none those for dynamic linking.
+// The symbols of the section of type `SHT_SYMTAB`, or if there is none the dynamic ones.
 fn all_symbols<'f, E: EndianParse, R: ListedFile<E>>(
     file: &'f R,
 ) -> Result<FoundSymbols<'f, E>, Stop>

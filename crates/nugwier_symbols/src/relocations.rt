@@ -139,7 +139,7 @@ enum Records<'f, E: EndianParse> {
     Relative(RelrIterator<'f, E>),
 }
 
-// A table of symbols, with their strings, and whether they are those for dynamic linking, which may have versions.
+// A table of symbols, with their strings, and whether they are the dynamic ones, which may have versions.
 #[derive(Drop)]
 struct NamedSymbols<'f, E: EndianParse> {
     table: SymbolTable<'f, E>,

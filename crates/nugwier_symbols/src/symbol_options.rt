@@ -30,7 +30,7 @@ pub enum SymbolOrder {
 /// What the options ask for.
 #[derive(Debug, Clone, Copy)]
 pub struct SymbolOptions {
-    /// Only the symbols for dynamic linking.
+    /// Only the dynamic symbols.
     pub is_dynamic: bool,
     /// Only those that other files can see.
     pub is_external: bool,

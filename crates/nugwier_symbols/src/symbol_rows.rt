@@ -12,7 +12,8 @@ ghost use Rattle.nugwier_symbols.specs.SymbolRows.{order_of};
 ghost use Rattle.nugwier_symbols.specs.SymbolRows.{section_letter, shown_letter, st_shndx_name, symbol_layout, symbol_members};
 ghost use Rattle.nugwier_symbols.specs.SymbolRows.{symbol_said, table_name, undefined_letter, version_known, version_read};
 ghost use Rattle.nugwier_symbols.specs.SymbolRows.{data_letter, has_flag, is_for_debugging, weak_letter};
-ghost use Rattle.nugwier_symbols.specs.SymbolVersions.{version_default, version_name, version_view};
+ghost use Rattle.nugwier_report.specs.SymbolVersion.{version_default, version_name};
+ghost use Rattle.nugwier_symbols.specs.SymbolVersions.{version_view};
 ghost use Rattle.nugwier_report.specs.declared.problem.Item.TheVariants.{SymbolName, SymbolVersion};
 ghost use Rattle.nugwier_layouts.specs.Layouts.{layout_of};
 

@@ -50,7 +50,7 @@ pub fn tell_symbols<E: EndianParse, R: ListedFile<E>, T: Tell>(
     tell_table(alloc, Part::Symbols, Form::Fields, found, Ok(None), tell)
 }
 
-/// Tells the symbols for dynamic linking, with all their fields.
+/// Tells the dynamic symbols, with all their fields.
 pub fn tell_dynamic_symbols<E: EndianParse, R: ListedFile<E>, T: Tell>(
     alloc: Global,
     file: &R,
@@ -98,7 +98,7 @@ pub fn tell_exports<E: EndianParse, R: ListedFile<E>, T: Tell>(
     tell_linked(alloc, Form::Export { functions_only }, file, tell)
 }
 
-// Tells the symbols that were found, or if there are none those for dynamic linking.
+// Tells the symbols that were found, or if there are none the dynamic ones.
 fn tell_found<'f, E: EndianParse, R: ListedFile<E>, T: Tell>(
     alloc: Global,
     form: Form<'f>,
@@ -116,7 +116,7 @@ fn tell_found<'f, E: EndianParse, R: ListedFile<E>, T: Tell>(
     }
 }
 
-// Tells the symbols for dynamic linking, with their versions. One of whom nothing comes is as after anything.
+// Tells the dynamic symbols, with their versions. One of whom nothing comes is as after anything.
 fn tell_linked<'f, E: EndianParse, R: ListedFile<E>, T: Tell>(
     alloc: Global,
     form: Form<'f>,

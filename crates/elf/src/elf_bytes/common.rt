@@ -26,9 +26,9 @@ pub struct CommonElfData<'data, E: EndianParse> {
     pub symtab: Option<SymbolTable<'data, E>>,
     /// The strings with the names of these symbols.
     pub symtab_strs: Option<StringTable<'data>>,
-    /// The symbols for dynamic linking: section type `SHT_DYNSYM`.
+    /// The dynamic symbols: section type `SHT_DYNSYM`.
     pub dynsyms: Option<SymbolTable<'data, E>>,
-    /// The strings with the names of the symbols for dynamic linking.
+    /// The strings with the names of the dynamic symbols.
     pub dynsyms_strs: Option<StringTable<'data>>,
     /// The dynamic entries: section type `SHT_DYNAMIC`, or segment type `PT_DYNAMIC`.
     pub dynamic: Option<DynamicTable<'data, E>>,

@@ -85,7 +85,7 @@ impl<'data, E: EndianParse> ElfBytes<'data, E> {
         self.first_symbols(abi::SHT_SYMTAB)
     }
 
-    /// Returns the symbols for dynamic linking, those of the first section of type `SHT_DYNSYM`, with their strings.
+    /// Returns the dynamic symbols, those of the first section of type `SHT_DYNSYM`, with their strings.
     /// Returns `None` if there is no section of this type. The errors are those of `symbol_table`.
     ///
     /// ```rust

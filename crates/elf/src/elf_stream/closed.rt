@@ -1,5 +1,5 @@
 //! A stream whose source is closed.
-ghost use Rattle.std.specs.Prelude.{true, None};
+ghost use Rattle.std.specs.Prelude.{true, IsErr, None};
 ghost use Rattle.elf.specs.ElfStream.{IsClosed};
 
 use super::ElfStream;
@@ -23,15 +23,21 @@ impl StreamSource for Closed {
 
     ghost can_fail = { λ _. true };
 
-    fn seek_end(&mut self) -> Result<u64, io::Error> {
+    fn seek_end(&mut self) -> Result<u64, io::Error>
+        ensures { IsErr result }
+    {
         Err(io::Error::from(ErrorKind::NotConnected))
     }
 
-    fn seek_start(&mut self, _pos: u64) -> Result<(), io::Error> {
+    fn seek_start(&mut self, _pos: u64) -> Result<(), io::Error>
+        ensures { IsErr result }
+    {
         Err(io::Error::from(ErrorKind::NotConnected))
     }
 
-    fn read(&mut self, _buf: &mut [u8]) -> Result<usize, io::Error> {
+    fn read(&mut self, _buf: &mut [u8]) -> Result<usize, io::Error>
+        ensures { IsErr result }
+    {
         Err(io::Error::from(ErrorKind::NotConnected))
     }
 }

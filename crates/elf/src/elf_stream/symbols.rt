@@ -72,7 +72,7 @@ impl<E: EndianParse, S: StreamSource, A: Allocator + Copy> ElfStream<E, S, A> {
         self.first_symbols(abi::SHT_SYMTAB)
     }
 
-    /// Returns the symbols for dynamic linking, those of the first section of type `SHT_DYNSYM`, with their strings.
+    /// Returns the dynamic symbols, those of the first section of type `SHT_DYNSYM`, with their strings.
     /// Returns `None` if there is no section of this type. Ranges and errors are those of `symbol_table`.
     ///
     /// ```rust

@@ -17,16 +17,16 @@ use Rattle.elf_records.specs.declared.section.SectionHeader.{SectionHeader}
 use Rattle.elf_reading.specs.Opening.{FileView}
 use Rattle.elf_reading.specs.Tables.{count_word, declared_sections, declared_segments}
 use Rattle.elf_reading.specs.declared.tables.DeclaredTable.{DeclaredTable}
+use Rattle.elf.specs.LoadedRanges.{parts_in, ranges_in}
 use Rattle.elf.specs.ObjectFile.{err_map}
 use Rattle.elf.specs.Parts.{Ranges}
+use Rattle.elf.specs.declared.loaded_ranges.LoadedParts.{LoadedParts}
 use Rattle.elf.specs.declared.read_error.ReadError.{ReadError}
 use Rattle.elf.specs.declared.read_error.ReadError.TheVariants.{Parse}
-use Rattle.elf_c.specs.Loaded.{parts_in, ranges_in}
-use Rattle.elf_c.specs.declared.loaded.Loaded.{Loaded}
 
 -- the ranges that are loaded
-abbrev pub ranges_of : Loaded → Ranges
-ranges_of loaded = ranges_in loaded.size (parts_in loaded.bytes.now loaded.ranges.now)
+abbrev pub ranges_of : LoadedParts → Ranges
+ranges_of loaded = ranges_in loaded.size (parts_in loaded.front.now loaded.ranges.now)
 
 -- an error of bytes that begin at o, as the file has it
 abbrev pub moved : ℕ → ParseError → ParseError

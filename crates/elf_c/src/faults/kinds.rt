@@ -137,7 +137,7 @@ pub const PART_OF_VERSION_INDEX: u32 = 611;
 /// The version indexes cannot be read.
 pub const VERSION_INDEXES_UNREADABLE: u32 = 612;
 
-/// There are version indexes, and no symbols for dynamic linking.
+/// There are version indexes, and no dynamic symbols.
 pub const NO_DYNAMIC_SYMBOLS: u32 = 613;
 
 /// There are not as many version indexes as symbols.

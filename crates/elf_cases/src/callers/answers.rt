@@ -1,11 +1,11 @@
 //! The results of the callers, as lines.
 use super::binding_lines::print_bindings;
-use super::needed_lines::print_needed_of_bytes;
-use elf::ElfBytes;
+use super::needed_lines::{Stream, print_needed};
 use elf::endian::AnyEndian;
 use elf::gnu_symver::{IndexedVersions, SymbolVersionTable};
 use elf::string_table::StringTable;
 use elf::symbol::{Symbol, SymbolTable};
+use elf::{ElfBytes, MemSource};
 use elf_linking::indexed;
 use elf_linking::resolve::resolve;
 use elf_linking::resolver::{definition, tables};
@@ -48,7 +48,7 @@ pub(super) fn print_answers<W: Write>(
 
 fn print_answer<W: Write>(alloc: Global, out: &mut W, caller: &str, data: &[u8]) -> io::Result<()> {
     if caller == "needed" {
-        return print_needed_of_bytes(alloc, out, data);
+        return print_needed(alloc, out, Stream::open_stream(alloc, MemSource::new(data)));
     }
     let file = match ElfBytes::minimal_parse(data) {
         Ok(file) => file,

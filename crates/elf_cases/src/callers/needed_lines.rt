@@ -1,13 +1,13 @@
 //! The results of `needed`, as lines.
 use elf::endian::AnyEndian;
-use elf::{ElfStream, FileSource, MemSource, ParseError, StreamSource};
+use elf::{ElfStream, FileSource, ParseError, StreamSource};
 use elf_linking::needed::{Name, Names, Role, read_dynamic_names};
 use std::alloc::Global;
 use std::fs::File;
 use std::io;
 use std::io::Write;
 
-type Stream<S> = ElfStream<AnyEndian, S, Global>;
+pub(super) type Stream<S> = ElfStream<AnyEndian, S, Global>;
 
 /// Prints the lines of the files with these names. Of each file only the needed ranges are read.
 pub(super) fn print_needed_of_files<W: Write>(
@@ -22,16 +22,8 @@ pub(super) fn print_needed_of_files<W: Write>(
     Ok(())
 }
 
-/// Prints the lines of a file in memory.
-pub(super) fn print_needed_of_bytes<W: Write>(
-    alloc: Global,
-    out: &mut W,
-    data: &[u8],
-) -> io::Result<()> {
-    print_needed(alloc, out, Stream::open_stream(alloc, MemSource::new(data)))
-}
-
-fn print_needed<S: StreamSource, W: Write>(
+/// Prints the lines of a file.
+pub(super) fn print_needed<S: StreamSource, W: Write>(
     alloc: Global,
     out: &mut W,
     opened: Result<Stream<S>, ParseError>,

@@ -11,14 +11,12 @@ use Rattle.elf_hash_check.specs.Object.{ByGnu, BySysv, IsSound, Object}
 use Rattle.elf_hash_check.specs.declared.hashcheck.any.HashKind.{HashKind}
 use Rattle.elf_hash_check.specs.inner.SoundProps.{SoundGnu-prop, SoundSysv-prop}
 use Rattle.elf.specs.ObjectFile.{ObjectFile}
-use Rattle.elf_records.specs.declared.symbol.Symbol.{Symbol}
 use Rattle.elf_parts.specs.gnu_symver.Table.{Versions}
 use Rattle.elf_reading.specs.Versions.{version_sections}
 use Rattle.elf_reading.specs.declared.versions.VersionSections.{VersionSections}
 use Rattle.elf_check.specs.inner.SegmentsProps.{SoundSegments-prop}
 use Rattle.elf_check.specs.inner.VersionProps.{IfSome-prop, SoundDefs-prop, SoundNeeds-prop}
 use Rattle.elf_check.specs.versions.InFile.{SoundDefsOf, SoundIndexesOf, SoundNeedsOf, SoundVersions, SoundVersionsOf}
-use Rattle.elf_check.specs.Symbols.{AllNamed}
 use Rattle.elf_check.specs.Hashes.{SoundHash}
 use Rattle.elf_check.specs.Notes.{SoundNotes}
 use Rattle.elf_check.specs.Relocations.{SoundRelocations}
@@ -103,6 +101,3 @@ SoundVersions-prop file =
 
 pub SoundFile-prop : (file : ObjectFile) → IsProp (SoundFile file)
 SoundFile-prop file = hlevel (SoundSection-prop, SoundVersions-prop, SoundSegments-prop, Coded-set, codes)
-
-pub AllNamed-prop : (strings : List ℕ) (symbols : List Symbol) → IsProp (AllNamed strings symbols)
-AllNamed-prop strings symbols = hlevel (Coded-set, codes)

@@ -1,24 +1,27 @@
 -- When the versions of a file are sound (GNU symbol versioning), and what each fault says.
-use Rattle.std.specs.Prelude.{◌≡◌, ◌≢◌, ◌⊎◌, ℕ, ◌%◌, ◌<◌, ◌≤◌, List, length, Result, IsErr, IfSome, IsSome}
+use Rattle.std.specs.Prelude.{◌≡◌, ◌≢◌, ◌⊎◌, ℕ, ◌%◌, ◌<◌, ◌≤◌, Bool, List, length, Result, IsErr, IfSome, IsSome}
 use Rattle.std.specs.Option.{IsSomeAnd}
 use Rattle.std.specs.Result.{IsOkAnd}
 use Rattle.elf_records.specs.Number.{ok_map}
-use Rattle.elf_records.specs.Record.{◌>>=◌, size_by}
+use Rattle.elf_records.specs.Record.{◌>>=◌, record_by, size_by}
 use Rattle.elf_records.specs.Symbol.{symbol_reads}
+use Rattle.elf_records.specs.declared.file.Class.{Class}
 use Rattle.elf_records.specs.declared.parse.ParseError.{ParseError}
 use Rattle.elf_records.specs.declared.section.SectionHeader.{SectionHeader}
-use Rattle.elf_records.specs.Table.{table_len}
+use Rattle.elf_records.specs.Table.{Table, table_len}
+use Rattle.elf_parts.specs.gnu_symver.Records.{ver_def_layout, ver_need_layout}
 use Rattle.elf_parts.specs.gnu_symver.Records.{version_index_layout, version_index_reads}
 use Rattle.elf_parts.specs.gnu_symver.Table.{Versions}
 use Rattle.elf_check.specs.Chains.{IsTrueOfChain, total_extent}
 use Rattle.elf_check.specs.versions.Indexes.{IsTrueOfFirst, SoundIndexes}
-use Rattle.elf_check.specs.versions.Records.{SoundDef, SoundDefs, SoundNeed, SoundNeeds, def_extent, def_links}
-use Rattle.elf_check.specs.versions.Records.{need_extent, need_links}
+use Rattle.elf_check.specs.versions.Records.{SoundDef, SoundEntries, SoundNeed, def_extent, entry_links, need_extent}
 use Rattle.elf.specs.Answers.{dynamic_symbol_table}
 use Rattle.elf.specs.ObjectFile.{ObjectFile, section_part, table_of}
 use Rattle.elf.specs.Versions.{linked_strings, versions_of}
 use Rattle.elf_reading.specs.Versions.{version_sections}
 use Rattle.elf_reading.specs.declared.versions.VersionSections.{VersionSections}
+use Rattle.elf_check.specs.declared.versions.EntriesFault.{EntriesFault}
+use Rattle.elf_check.specs.declared.versions.EntriesFault.TheVariants.{Faulty, TooLong, Unreadable}
 use Rattle.elf_check.specs.declared.faults.VersionsFault.{VersionsFault}
 use Rattle.elf_check.specs.declared.faults.VersionsFault.TheVariants.{CountOfIndexes, DefinitionsTooLong}
 use Rattle.elf_check.specs.declared.faults.VersionsFault.TheVariants.{DefinitionsUnreadable, FaultyDefinitions}
@@ -31,15 +34,44 @@ abbrev pub with_strings : ObjectFile → SectionHeader → Result (List ℕ × L
 with_strings file s = section_part file s >>= λ bytes. ok_map (λ strings. (bytes, strings)) (linked_strings
     file s)
 
--- a section of needs: exactly sh_info of them
+-- ---- needs, or definitions
+
+module _ {V : Type 0} (record_at : Bool → Class → List ℕ → ℕ → Result V ParseError) (distance extent : V → ℕ)
+    (IsSound : List ℕ → Table → ℕ × V → Type 0) where
+  -- a section of entries: exactly sh_info of them
+  abbrev pub SoundEntriesOf : ObjectFile → SectionHeader → Type 0
+  SoundEntriesOf file s =
+      IsOkAnd (with_strings file s) (λ found. SoundEntries record_at distance extent IsSound found.1 (table_of file
+      found.0) s.sh_info)
+
+  -- The faults, in the order in which they are looked for: their bytes and strings, how many bytes their auxiliary
+  -- records take, and then each entry. Each case says that those before it are not there.
+  abbrev pub IsTrueOfEntries : ObjectFile → SectionHeader → EntriesFault → Type 0
+  IsTrueOfEntries file s Unreadable = IsErr (with_strings file s)
+  IsTrueOfEntries file s TooLong = IsOkAnd (with_strings file s) (λ found.
+      length found.0 < total_extent extent (entry_links record_at distance (table_of file found.0) s.sh_info))
+  IsTrueOfEntries file s (Faulty fault) = IsOkAnd (with_strings file s) (λ found.
+      let t = table_of file found.0 in
+      let links = entry_links record_at distance t s.sh_info in
+      (total_extent extent links ≤ length found.0)
+      × IsTrueOfChain distance (IsSound found.1 t) s.sh_info links fault)
+
 abbrev pub SoundNeedsOf : ObjectFile → SectionHeader → Type 0
-SoundNeedsOf file s = IsOkAnd (with_strings file s) (λ found. SoundNeeds found.1 (table_of file found.0) s.sh_info)
+SoundNeedsOf = SoundEntriesOf (record_by ver_need_layout) (λ x. x.vn_next) need_extent SoundNeed
 
--- a section of definitions
 abbrev pub SoundDefsOf : ObjectFile → SectionHeader → Type 0
-SoundDefsOf file s = IsOkAnd (with_strings file s) (λ found. SoundDefs found.1 (table_of file found.0) s.sh_info)
+SoundDefsOf = SoundEntriesOf (record_by ver_def_layout) (λ x. x.vd_next) def_extent SoundDef
 
--- there are symbols for dynamic linking, and as many as version indexes
+-- what needs lack, and what definitions lack
+abbrev pub NeedsLack : ObjectFile → SectionHeader → EntriesFault → Type 0
+NeedsLack = IsTrueOfEntries (record_by ver_need_layout) (λ x. x.vn_next) need_extent SoundNeed
+
+abbrev pub DefsLack : ObjectFile → SectionHeader → EntriesFault → Type 0
+DefsLack = IsTrueOfEntries (record_by ver_def_layout) (λ x. x.vd_next) def_extent SoundDef
+
+-- ---- version indexes
+
+-- there are dynamic symbols, and as many as version indexes
 abbrev pub AreAsMany : ObjectFile → Versions → Type 0
 AreAsMany file versions =
     IsOkAnd (dynamic_symbol_table file) (λ found. IsSomeAnd found (λ symbols.
@@ -76,26 +108,18 @@ pub record SoundIndexSection (file : ObjectFile) (chosen : VersionSections) (s :
 
 -- ---- faults, in the order in which they are looked for: each case says that those before it are not there
 
--- of needs: their bytes and strings, how many bytes their versions take, and then each need
+-- of needs
 abbrev pub IsTrueOfNeeds : ObjectFile → SectionHeader → VersionsFault → Type 0
-IsTrueOfNeeds file s NeedsUnreadable = IsErr (with_strings file s)
-IsTrueOfNeeds file s NeedsTooLong = IsOkAnd (with_strings file s) (λ found.
-    length found.0 < total_extent need_extent (need_links (table_of file found.0) s.sh_info))
-IsTrueOfNeeds file s (FaultyNeeds fault) = IsOkAnd (with_strings file s) (λ found.
-    let t = table_of file found.0 in
-    (total_extent need_extent (need_links t s.sh_info) ≤ length found.0)
-    × IsTrueOfChain (λ x. x.vn_next) (SoundNeed found.1 t) s.sh_info (need_links t s.sh_info) fault)
+IsTrueOfNeeds file s NeedsUnreadable = NeedsLack file s Unreadable
+IsTrueOfNeeds file s NeedsTooLong = NeedsLack file s TooLong
+IsTrueOfNeeds file s (FaultyNeeds fault) = NeedsLack file s (Faulty fault)
 IsTrueOfNeeds file s fault = ⊥
 
--- of definitions, in the same order
+-- of definitions
 abbrev pub IsTrueOfDefs : ObjectFile → SectionHeader → VersionsFault → Type 0
-IsTrueOfDefs file s DefinitionsUnreadable = IsErr (with_strings file s)
-IsTrueOfDefs file s DefinitionsTooLong = IsOkAnd (with_strings file s) (λ found.
-    length found.0 < total_extent def_extent (def_links (table_of file found.0) s.sh_info))
-IsTrueOfDefs file s (FaultyDefinitions fault) = IsOkAnd (with_strings file s) (λ found.
-    let t = table_of file found.0 in
-    (total_extent def_extent (def_links t s.sh_info) ≤ length found.0)
-    × IsTrueOfChain (λ x. x.vd_next) (SoundDef found.1 t) s.sh_info (def_links t s.sh_info) fault)
+IsTrueOfDefs file s DefinitionsUnreadable = DefsLack file s Unreadable
+IsTrueOfDefs file s DefinitionsTooLong = DefsLack file s TooLong
+IsTrueOfDefs file s (FaultyDefinitions fault) = DefsLack file s (Faulty fault)
 IsTrueOfDefs file s fault = ⊥
 
 -- of version indexes: the dynamic symbols, whether they are as many, and then each index

@@ -1,9 +1,10 @@
 -- When the needs and the definitions of versions are sound (GNU symbol versioning).
-use Rattle.std.specs.Prelude.{ℕ, ◌+◌, ◌*◌, ◌<◌, ◌≤◌, List, length, IsTrue, Result}
+use Rattle.std.specs.Prelude.{ℕ, ◌+◌, ◌*◌, ◌<◌, ◌≤◌, Bool, List, length, IsTrue, Result}
 use Rattle.std.specs.Str.{is_utf8}
 use Rattle.std.specs.Result.{IsOkAnd}
 use Rattle.elf_records.specs.Record.{record_by}
 use Rattle.elf_records.specs.StringTable.{string_at}
+use Rattle.elf_records.specs.declared.file.Class.{Class}
 use Rattle.elf_records.specs.declared.parse.ParseError.{ParseError}
 use Rattle.elf_records.specs.Table.{Table}
 use Rattle.elf_parts.specs.gnu_symver.Links.{links_in}
@@ -22,6 +23,21 @@ IsText raw = IsOkAnd raw (λ bytes. IsTrue (is_utf8 bytes))
 abbrev pub IsTextAt : List ℕ → ℕ → Type 0
 IsTextAt strings o = IsText (string_at strings o)
 
+-- ---- entries: needs, or definitions
+
+-- the entries of some bytes
+abbrev pub entry_links :
+    {V : Type 0} → (Bool → Class → List ℕ → ℕ → Result V ParseError) → (V → ℕ) → Table → ℕ → List (ℕ × V)
+entry_links record_at distance t count = links_in record_at distance t count 0
+
+module _ {V : Type 0} (record_at : Bool → Class → List ℕ → ℕ → Result V ParseError) (distance extent : V → ℕ)
+    (IsSound : List ℕ → Table → ℕ × V → Type 0) where
+  -- There are exactly as many entries as the section declares, each sound, and their auxiliary records do not take more
+  -- bytes than there are. So a check of them all is linear. A few may lie in the same bytes, as linkers write it.
+  pub record SoundEntries (strings : List ℕ) (t : Table) (count : ℕ) : Type 0 where
+    pub fit : total_extent extent (entry_links record_at distance t count) ≤ length t.bytes
+    pub chain : SoundChain distance (IsSound strings t) count (entry_links record_at distance t count)
+
 -- ---- needs
 
 abbrev pub SoundNeedAux : List ℕ → Table → ℕ × VerNeedAux → Type 0
@@ -39,17 +55,14 @@ pub record SoundNeed (strings : List ℕ) (t : Table) (link : ℕ × VerNeed) : 
 
 -- the needs of some bytes
 abbrev pub need_links : Table → ℕ → List (ℕ × VerNeed)
-need_links t count = links_in (record_by ver_need_layout) (λ x. x.vn_next) t count 0
+need_links = entry_links (record_by ver_need_layout) (λ x. x.vn_next)
 
 -- how many bytes the versions of a need take
 abbrev pub need_extent : VerNeed → ℕ
 need_extent need = need.vn_cnt * 16
 
--- There are exactly as many needs as the section declares, each sound, and their versions do not take more bytes than
--- there are. So a check of them all is linear. A few may lie in the same bytes, as linkers write it.
-pub record SoundNeeds (strings : List ℕ) (t : Table) (count : ℕ) : Type 0 where
-  pub fit : total_extent need_extent (need_links t count) ≤ length t.bytes
-  pub chain : SoundChain (λ x. x.vn_next) (SoundNeed strings t) count (need_links t count)
+abbrev pub SoundNeeds : List ℕ → Table → ℕ → Type 0
+SoundNeeds = SoundEntries (record_by ver_need_layout) (λ x. x.vn_next) need_extent SoundNeed
 
 -- ---- definitions
 
@@ -66,14 +79,11 @@ pub record SoundDef (strings : List ℕ) (t : Table) (link : ℕ × VerDef) : Ty
   pub names : SoundChain (λ x. x.vda_next) (SoundDefAux strings t) link.1.vd_cnt (def_aux_links t link)
 
 abbrev pub def_links : Table → ℕ → List (ℕ × VerDef)
-def_links t count = links_in (record_by ver_def_layout) (λ x. x.vd_next) t count 0
+def_links = entry_links (record_by ver_def_layout) (λ x. x.vd_next)
 
 -- how many bytes the names of a definition take
 abbrev pub def_extent : VerDef → ℕ
 def_extent definition = definition.vd_cnt * 8
 
--- There are exactly as many definitions as the section declares, each sound, and their names do not take more bytes
--- than there are.
-pub record SoundDefs (strings : List ℕ) (t : Table) (count : ℕ) : Type 0 where
-  pub fit : total_extent def_extent (def_links t count) ≤ length t.bytes
-  pub chain : SoundChain (λ x. x.vd_next) (SoundDef strings t) count (def_links t count)
+abbrev pub SoundDefs : List ℕ → Table → ℕ → Type 0
+SoundDefs = SoundEntries (record_by ver_def_layout) (λ x. x.vd_next) def_extent SoundDef

@@ -4,7 +4,7 @@ ghost use Rattle.elf_abi.specs.Values.{sht_dynamic};
 ghost use Rattle.elf.specs.ElfBytes.{view};
 ghost use Rattle.elf.specs.Headers.{first_section_of};
 ghost use Rattle.elf.specs.ObjectFile.{object_file};
-ghost use Rattle.elf_check.specs.Segments.{IsRangeOf, IsWhole, SoundDynamicSegment, is_emptied, segment_bytes};
+ghost use Rattle.elf_check.specs.Segments.{IsRangeOf, SoundDynamicSegment, is_emptied, segment_bytes};
 ghost use Rattle.elf_check.specs.SegmentsFaults.{IsTrueOfDynamic};
 
 use super::faults::SegmentFault;
@@ -12,7 +12,6 @@ use crate::dynamic::has_null;
 use elf::ElfBytes;
 use elf::dynamic::{Dyn, DynamicTable};
 use elf::endian::EndianParse;
-use elf::file::Class;
 use elf::parse::ParseAt;
 use elf::section::SectionHeader;
 use elf::segment::ProgramHeader;
@@ -22,13 +21,6 @@ pub(super) fn is_emptied(phdr: &ProgramHeader) -> bool
     ensures { result ≡ is_emptied phdr.now }
 {
     phdr.p_filesz == 0 && phdr.p_memsz > 0
-}
-
-// Whether the bytes of a segment are a whole number of entries.
-fn is_whole(class: Class, phdr: &ProgramHeader) -> bool
-    ensures { IsTrue result ↔ IsWhole class phdr.now }
-{
-    phdr.p_filesz % Dyn::size_for(class) as u64 == 0
 }
 
 // Whether the section, if there is one, has the bytes of a segment.
@@ -53,7 +45,7 @@ pub(super) fn dynamic_fault<E: EndianParse>(
     ensures { let whole = object_file E.little (view file.now) in
         MatchOption result (SoundDynamicSegment whole phdr.now) (IsTrueOfDynamic whole phdr.now) }
 {
-    if !is_whole(file.ehdr.class, phdr) {
+    if phdr.p_filesz % Dyn::size_for(file.ehdr.class) as u64 != 0 {
         return Some(SegmentFault::PartOfEntry);
     }
     if is_emptied(phdr) {

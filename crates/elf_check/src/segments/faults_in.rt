@@ -4,8 +4,8 @@ ghost use Rattle.elf_abi.specs.Values.{sht_dynamic};
 ghost use Rattle.elf.specs.ElfBytes.{view};
 ghost use Rattle.elf.specs.Headers.{first_section_of};
 ghost use Rattle.elf.specs.ObjectFile.{object_file};
-ghost use Rattle.elf_check.specs.AllFaults.{LoadOrder, PhdrFirst, SegmentAt, SingleDynamic, SingleInterp};
-ghost use Rattle.elf_check.specs.AllFaults.{SinglePhdr, SingleTls};
+ghost use Rattle.elf_check.specs.AllFaults.{LoadOrder, SegmentAt, Types};
+ghost use Rattle.elf_check.specs.TypeRules.{fault_of, types_of};
 ghost use Rattle.elf_check.specs.inner.Walk.{IsFaultIfAny};
 
 use super::each::segment_fault;
@@ -17,41 +17,54 @@ use elf::endian::EndianParse;
 use elf::section::SectionHeader;
 use elf::{ElfBytes, abi};
 
-// The fault of each type that at most one segment may have.
-pub(crate) fn second_interp<E: EndianParse>(file: &ElfBytes<'_, E>) -> Option<FileFault>
-    ensures { IsFaultIfAny (object_file E.little (view file.now)) SingleInterp result }
-{
-    let (first, index) = first_pair(file, abi::PT_INTERP, abi::PT_INTERP)?;
-    Some(FileFault::Segments(SegmentsFault::SecondInterp { first, index }))
+/// What the types of two segments have to keep: no segment of the second may follow one of the first.
+#[derive(Copy, Clone)]
+pub(crate) enum TypeRule {
+    SingleInterp,
+    SingleDynamic,
+    SinglePhdr,
+    SingleTls,
+    PhdrFirst,
 }
 
-pub(crate) fn second_dynamic<E: EndianParse>(file: &ElfBytes<'_, E>) -> Option<FileFault>
-    ensures { IsFaultIfAny (object_file E.little (view file.now)) SingleDynamic result }
-{
-    let (first, index) = first_pair(file, abi::PT_DYNAMIC, abi::PT_DYNAMIC)?;
-    Some(FileFault::Segments(SegmentsFault::SecondDynamic { first, index }))
+impl TypeRule {
+    // The type that comes first, and the one that may not follow it.
+    fn types(self) -> (u32, u32)
+        ensures { result ≡ types_of self }
+    {
+        match self {
+            TypeRule::SingleInterp => (abi::PT_INTERP, abi::PT_INTERP),
+            TypeRule::SingleDynamic => (abi::PT_DYNAMIC, abi::PT_DYNAMIC),
+            TypeRule::SinglePhdr => (abi::PT_PHDR, abi::PT_PHDR),
+            TypeRule::SingleTls => (abi::PT_TLS, abi::PT_TLS),
+            TypeRule::PhdrFirst => (abi::PT_LOAD, abi::PT_PHDR),
+        }
+    }
+
+    // The fault of two segments that break it.
+    fn fault(self, first: usize, index: usize) -> SegmentsFault
+        ensures { result ≡ fault_of self first index }
+    {
+        match self {
+            TypeRule::SingleInterp => SegmentsFault::SecondInterp { first, index },
+            TypeRule::SingleDynamic => SegmentsFault::SecondDynamic { first, index },
+            TypeRule::SinglePhdr => SegmentsFault::SecondPhdr { first, index },
+            TypeRule::SingleTls => SegmentsFault::SecondTls { first, index },
+            TypeRule::PhdrFirst => SegmentsFault::PhdrAfterLoad { first, index },
+        }
+    }
 }
 
-pub(crate) fn second_phdr<E: EndianParse>(file: &ElfBytes<'_, E>) -> Option<FileFault>
-    ensures { IsFaultIfAny (object_file E.little (view file.now)) SinglePhdr result }
+// The fault of the types of two segments.
+pub(crate) fn types_fault<E: EndianParse>(
+    file: &ElfBytes<'_, E>,
+    rule: TypeRule,
+) -> Option<FileFault>
+    ensures { IsFaultIfAny (object_file E.little (view file.now)) (Types rule) result }
 {
-    let (first, index) = first_pair(file, abi::PT_PHDR, abi::PT_PHDR)?;
-    Some(FileFault::Segments(SegmentsFault::SecondPhdr { first, index }))
-}
-
-pub(crate) fn second_tls<E: EndianParse>(file: &ElfBytes<'_, E>) -> Option<FileFault>
-    ensures { IsFaultIfAny (object_file E.little (view file.now)) SingleTls result }
-{
-    let (first, index) = first_pair(file, abi::PT_TLS, abi::PT_TLS)?;
-    Some(FileFault::Segments(SegmentsFault::SecondTls { first, index }))
-}
-
-// The fault of a segment of type `PT_PHDR` that comes after a loaded one.
-pub(crate) fn phdr_after_load<E: EndianParse>(file: &ElfBytes<'_, E>) -> Option<FileFault>
-    ensures { IsFaultIfAny (object_file E.little (view file.now)) PhdrFirst result }
-{
-    let (first, index) = first_pair(file, abi::PT_LOAD, abi::PT_PHDR)?;
-    Some(FileFault::Segments(SegmentsFault::PhdrAfterLoad { first, index }))
+    let (earlier, later) = rule.types();
+    let (first, index) = first_pair(file, earlier, later)?;
+    Some(FileFault::Segments(rule.fault(first, index)))
 }
 
 // The fault of the segment of an index, where the first section of type `SHT_DYNAMIC` is known.

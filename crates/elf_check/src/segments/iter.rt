@@ -1,15 +1,9 @@
 //! The segments of a file that was checked, in the order of the table.
 ghost use Rattle.std.specs.Prelude.{◌≡◌};
 ghost use Rattle.std.specs.Iterator.{YieldsFirstBy, item_count};
-ghost use Rattle.elf.specs.ElfBytes.{view};
-ghost use Rattle.elf.specs.ObjectFile.{object_file};
-ghost use Rattle.elf_check.specs.Segments.{SoundSegments};
 ghost use Rattle.elf_check.specs.SegmentsBytes.{with_bytes};
-ghost use Rattle.elf_check.specs.inner.SegmentsProps.{SoundView, SoundView-prop};
 
-use super::each::segment_bytes;
-use super::table::{segment_below, segment_count};
-use elf::ElfBytes;
+use super::whole::WholeSegments;
 use elf::endian::EndianParse;
 use elf::segment::ProgramHeader;
 
@@ -17,20 +11,23 @@ use elf::segment::ProgramHeader;
 /// number. After its first `None` it keeps returning `None`.
 #[derive(Debug, Drop)]
 pub struct WholeSegmentsIter<'a, 'data, E: EndianParse> {
-    file: &'a ElfBytes<'data, E>,
+    segments: WholeSegments<'a, 'data, E>,
     next: usize,
-    ghost sound: { SoundView E.little (view file.now) } by { SoundView-prop E.little (view file.now) },
 }
 
-impl<'a, 'data, E: EndianParse> WholeSegmentsIter<'a, 'data, E> {
-    ghost use Rattle.elf_check.specs.SegmentsWhole.{segments_left};
+impl<'a, 'data, E: EndianParse> WholeSegments<'a, 'data, E> {
+    ghost use Rattle.elf_check.specs.SegmentsWhole.{segments_file, segments_left};
 
-    pub(super) fn new(file: &'a ElfBytes<'data, E>) -> Self
-        requires { SoundSegments (object_file E.little (view file.now)) }
-        ensures { let whole = object_file E.little (view file.now) in
-            segments_left E.little result ≡ with_bytes whole whole.segments }
+    /// Returns an iterator over the segments in the order of the table: each program header with the bytes of its
+    /// segment in the file.
+    pub fn iter(&self) -> WholeSegmentsIter<'a, 'data, E>
+        ensures { segments_left E.little result
+            ≡ with_bytes (segments_file E.little self.now) (segments_file E.little self.now).segments }
     {
-        WholeSegmentsIter { file, next: 0 }
+        WholeSegmentsIter {
+            segments: WholeSegments::new(self.file),
+            next: 0,
+        }
     }
 }
 
@@ -44,13 +41,12 @@ impl<'a, 'data, E: EndianParse> Iterator for WholeSegmentsIter<'a, 'data, E> {
     ghost remaining = { item_count (segments_left E.little) };
 
     fn next(&mut self) -> Option<(ProgramHeader, &'data [u8])> {
-        if self.next >= segment_count(self.file) {
+        if self.next >= self.segments.len() {
             return None;
         }
-        let phdr = segment_below(self.file, self.next);
-        let bytes = segment_bytes(self.file, &phdr).unwrap();
+        let found = self.segments.get(self.next).unwrap();
         self.next += 1;
-        Some((phdr, bytes))
+        Some(found)
     }
 
     fn size_hint(&self) -> (usize, Option<usize>) {
@@ -61,6 +57,6 @@ impl<'a, 'data, E: EndianParse> Iterator for WholeSegmentsIter<'a, 'data, E> {
 
 impl<'a, 'data, E: EndianParse> ExactSizeIterator for WholeSegmentsIter<'a, 'data, E> {
     fn len(&self) -> usize {
-        segment_count(self.file).saturating_sub(self.next)
+        self.segments.len().saturating_sub(self.next)
     }
 }

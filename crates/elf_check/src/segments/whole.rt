@@ -1,20 +1,19 @@
 //! The segments of a file that was checked.
-ghost use Rattle.std.specs.Prelude.{◌≡◌, IfSome, MatchOption, None, Ok, false, length, slice_get};
+ghost use Rattle.std.specs.Prelude.{◌≡◌, ◌<◌, ◌↔◌, IfSome, IsSome, MatchOption, None, Ok, false, length, slice_get};
 ghost use Rattle.std.specs.Option.{IsSomeAnd, option_and_then, option_map};
-ghost use Rattle.elf_abi.specs.Values.{pt_dynamic};
+ghost use Rattle.elf_abi.specs.Values.{pt_dynamic, pt_interp};
 ghost use Rattle.elf_records.specs.Number.{ok_map};
 ghost use Rattle.elf_parts.specs.Note.{notes_left};
 ghost use Rattle.elf_records.specs.Table.{table_view};
 ghost use Rattle.elf.specs.ElfBytes.{view};
 ghost use Rattle.elf.specs.Headers.{first_segment_of};
 ghost use Rattle.elf.specs.ObjectFile.{object_file, table_of};
-ghost use Rattle.elf_check.specs.Segments.{SoundSegment, SoundSegments, is_emptied, pt_interp, segment_bytes};
+ghost use Rattle.elf_check.specs.Segments.{SoundSegment, SoundSegments, is_emptied, segment_bytes};
 ghost use Rattle.elf_check.specs.SegmentsBytes.{notes_of, with_bytes};
 ghost use Rattle.elf_check.specs.inner.SegmentsProps.{SoundView, SoundView-prop};
 
 use super::dynamic::is_emptied;
 use super::each::segment_bytes;
-use super::iter::WholeSegmentsIter;
 use super::table::{segment_at, segment_count};
 use elf::dynamic::DynamicTable;
 use elf::endian::EndianParse;
@@ -47,12 +46,12 @@ pub(crate) fn notes_of<'data, E: EndianParse>(
 /// The segments of a file that was checked: what the program headers declare can be read.
 #[derive(Debug, Drop)]
 pub struct WholeSegments<'a, 'data, E: EndianParse> {
-    file: &'a ElfBytes<'data, E>,
+    pub(super) file: &'a ElfBytes<'data, E>,
     ghost sound: { SoundView E.little (view file.now) } by { SoundView-prop E.little (view file.now) },
 }
 
 impl<'a, 'data, E: EndianParse> WholeSegments<'a, 'data, E> {
-    ghost use Rattle.elf_check.specs.SegmentsWhole.{interpreter, path_in, segments_file, segments_left};
+    ghost use Rattle.elf_check.specs.SegmentsWhole.{interpreter, path_in, segments_file};
 
     pub(crate) fn new(file: &'a ElfBytes<'data, E>) -> Self
         requires { SoundSegments (object_file E.little (view file.now)) }
@@ -75,19 +74,11 @@ impl<'a, 'data, E: EndianParse> WholeSegments<'a, 'data, E> {
             ≡ slice_get (segments_file E.little self.now).segments index }
         ensures bytes { IfSome result (λ found.
             segment_bytes (segments_file E.little self.now) found.0 ≡ Ok found.1.now) }
+        ensures below { IsSome result ↔ (index < length (segments_file E.little self.now).segments) }
     {
         let phdr = segment_at(self.file, index)?;
         let bytes = segment_bytes(self.file, &phdr).unwrap();
         Some((phdr, bytes))
-    }
-
-    /// Returns an iterator over the segments in the order of the table: each program header with the bytes of its
-    /// segment in the file.
-    pub fn iter(&self) -> WholeSegmentsIter<'a, 'data, E>
-        ensures { segments_left E.little result
-            ≡ with_bytes (segments_file E.little self.now) (segments_file E.little self.now).segments }
-    {
-        WholeSegmentsIter::new(self.file)
     }
 
     /// Returns the notes of the segment of an index, which has the type `PT_NOTE`, or `None` exactly if there is no

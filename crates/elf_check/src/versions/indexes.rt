@@ -54,19 +54,6 @@ fn count_with_kept<E: EndianParse, V: SymbolVersions<E>>(
     count
 }
 
-// The index of a symbol below their number.
-fn index_below<E: EndianParse, V: SymbolVersions<E>>(
-    table: &V,
-    symbol: usize,
-    symbols: usize,
-) -> VersionIndex
-    requires below { symbol < symbols }
-    requires readable { (i : ℕ) → IsOk (index_of (V.versions table.now) i) ↔ (i < symbols) }
-    ensures { index_of (V.versions table.now) symbol ≡ Ok result }
-{
-    table.get_index(symbol).unwrap()
-}
-
 /// The fault of the first symbol whose version index is not that of exactly one version.
 pub(super) fn first_fault<E: EndianParse, V: SymbolVersions<E>>(
     table: &V,
@@ -77,7 +64,7 @@ pub(super) fn first_fault<E: EndianParse, V: SymbolVersions<E>>(
 {
     let mut kept = [0; KEPT];
     for symbol in 0..symbols {
-        let index = index_below::<E, V>(table, symbol, symbols);
+        let index = table.get_index(symbol).unwrap();
         match count_with_kept::<E, V>(table, symbol, &index, &mut kept) {
             0 => return Some(VersionsFault::UnknownIndex { symbol }),
             1 => {}

@@ -3,7 +3,7 @@ ghost use Rattle.std.specs.Prelude.{◌↔◌, IsTrue};
 ghost use Rattle.elf_records.specs.StringTable.{strings_view};
 ghost use Rattle.elf_check.specs.versions.Records.{IsTextAt};
 
-use crate::chains::{Checkable, Extent, chain_fault};
+use crate::chains::{Checkable, Entry, chain_fault};
 use elf::endian::EndianParse;
 use elf::gnu_symver::links::Links;
 use elf::gnu_symver::{VerDef, VerDefAux, VerNeed, VerNeedAux};
@@ -46,7 +46,7 @@ impl Checkable for VerDefAux {
     }
 }
 
-impl Extent for VerNeed {
+impl Entry for VerNeed {
     ghost use Rattle.elf_check.specs.versions.Records.{need_extent};
 
     ghost extent = { need_extent };
@@ -56,7 +56,7 @@ impl Extent for VerNeed {
     }
 }
 
-impl Extent for VerDef {
+impl Entry for VerDef {
     ghost use Rattle.elf_check.specs.versions.Records.{def_extent};
 
     ghost extent = { def_extent };

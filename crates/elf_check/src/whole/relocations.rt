@@ -3,9 +3,8 @@ ghost use Rattle.std.specs.Prelude.{◌≡◌};
 ghost use Rattle.std.specs.Iterator.{YieldsFirstBy, item_count};
 ghost use Rattle.std.specs.Option.{option_map};
 ghost use Rattle.elf_records.specs.Table.{table_items, table_view};
-ghost use Rattle.elf.specs.Answers.{symbols_view};
 ghost use Rattle.elf_check.specs.RelocationLists.{symbol_in, with_symbols};
-ghost use Rattle.elf_check.specs.Whole.{named_view};
+ghost use Rattle.elf_check.specs.Whole.{named_view, whole_symbols};
 
 use super::symbols::WholeSymbols;
 use crate::relocations::record_below;
@@ -14,41 +13,32 @@ use elf::laws::lists::list_is_what_get_gives;
 use elf::laws::tables::iter_gives_len_records;
 use elf::parse::ParsingTable;
 use elf::relocation::Relocation;
-use elf::string_table::StringTable;
-use elf::symbol::{Symbol, SymbolTable};
+use elf::symbol::Symbol;
 
 /// Relocations in order, each with the symbol that it names and its name, if symbols are linked and shown. After its
 /// first `None` it keeps returning `None`.
 #[derive(Debug, Drop)]
 pub struct WholeRelocations<'data, E: EndianParse, P: Relocation> {
     table: ParsingTable<'data, E, P>,
-    symbols: Option<(SymbolTable<'data, E>, StringTable<'data>)>,
+    symbols: Option<WholeSymbols<'data, E>>,
     next: usize,
 }
 
 // The symbol of an index and the bytes of its name, if symbols are linked and it can be read.
-#[tactic(auto, unfolding(elf_parts::specs::Hash::named_symbol))]
 fn symbol_in<'data, E: EndianParse>(
-    symbols: &Option<(SymbolTable<'data, E>, StringTable<'data>)>,
+    symbols: &Option<WholeSymbols<'data, E>>,
     index: usize,
 ) -> Option<(Symbol, &'data [u8])>
-    ensures { option_map named_view result ≡ symbol_in (option_map symbols_view symbols.now) index }
+    ensures { option_map named_view result ≡ symbol_in (option_map whole_symbols symbols.now) index }
 {
     match symbols {
-        Some((symbols, strings)) => match symbols.get(index) {
-            Ok(symbol) => match strings.get_raw(symbol.st_name as usize) {
-                Ok(name) => Some((symbol, name)),
-                Err(_) => None,
-            },
-            Err(_) => None,
-        },
+        Some(symbols) => symbols.get(index),
         None => None,
     }
 }
 
 impl<'data, E: EndianParse, P: Relocation> WholeRelocations<'data, E, P> {
     ghost use Rattle.elf_check.specs.RelocationViews.{relocations_left};
-    ghost use Rattle.elf_check.specs.Whole.{whole_symbols};
 
     pub(super) fn new(
         table: ParsingTable<'data, E, P>,
@@ -58,10 +48,6 @@ impl<'data, E: EndianParse, P: Relocation> WholeRelocations<'data, E, P> {
             ≡ with_symbols P.symbol_of (option_map whole_symbols symbols.entry) (table_items P.reads (table_view
             table.entry)) }
     {
-        let symbols = match symbols {
-            Some(symbols) => Some(symbols.parts()),
-            None => None,
-        };
         WholeRelocations {
             table,
             symbols,

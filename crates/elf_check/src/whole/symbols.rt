@@ -1,35 +1,31 @@
 //! The symbols of a section of a file that was checked.
-ghost use Rattle.std.specs.Prelude.{◌≡◌, ◌<◌, ◌↔◌, ℕ, IsOk, IsSome, length};
+ghost use Rattle.std.specs.Prelude.{◌≡◌, ◌<◌, ◌↔◌, ℕ, IsOk, IsSome};
 ghost use Rattle.std.specs.Option.{option_map};
 ghost use Rattle.std.specs.Result.{result_ok};
 ghost use Rattle.elf_parts.specs.Hash.{named_symbol};
-ghost use Rattle.elf_records.specs.Table.{table_items, table_len, table_view};
+ghost use Rattle.elf_records.specs.Table.{table_len, table_view};
 ghost use Rattle.elf_records.specs.StringTable.{strings_view};
 ghost use Rattle.elf_records.specs.Symbol.{symbol_reads};
-ghost use Rattle.elf.specs.Answers.{symbols_view};
-ghost use Rattle.elf_reading.specs.Leading.{data_view};
-ghost use Rattle.elf_check.specs.Symbols.{AllNamed, SoundSymbolTable, with_names};
+ghost use Rattle.elf_check.specs.Symbols.{SoundSymbolTable};
 ghost use Rattle.elf_check.specs.inner.SoundProps.{SoundSymbolTable-prop};
 
-use super::iter::WholeSymbolsIter;
 use elf::endian::EndianParse;
-use elf::laws::lists::list_is_what_get_gives;
-use elf::laws::tables::{get_succeeds_below_len, iter_gives_len_records};
+use elf::laws::tables::get_succeeds_below_len;
 use elf::string_table::StringTable;
 use elf::symbol::{Symbol, SymbolTable};
 
 /// Symbols whose names can all be read.
 #[derive(Debug, Drop)]
 pub struct WholeSymbols<'data, E: EndianParse> {
-    symbols: SymbolTable<'data, E>,
-    strings: StringTable<'data>,
-    sections: usize,
+    pub(super) symbols: SymbolTable<'data, E>,
+    pub(super) strings: StringTable<'data>,
+    pub(super) sections: usize,
     ghost sound: { SoundSymbolTable sections (table_view symbols) (strings_view strings) } by { SoundSymbolTable-prop
         sections (table_view symbols) (strings_view strings) },
 }
 
 impl<'data, E: EndianParse> WholeSymbols<'data, E> {
-    ghost use Rattle.elf_check.specs.Whole.{named_left, named_view, whole_symbols};
+    ghost use Rattle.elf_check.specs.Whole.{named_view, whole_symbols};
 
     pub(super) fn new(
         symbols: SymbolTable<'data, E>,
@@ -44,13 +40,6 @@ impl<'data, E: EndianParse> WholeSymbols<'data, E> {
             strings,
             sections,
         }
-    }
-
-    // The table of the symbols, and their strings.
-    pub(super) fn parts(&self) -> (SymbolTable<'data, E>, StringTable<'data>)
-        ensures { symbols_view result ≡ whole_symbols self.now }
-    {
-        (self.symbols, self.strings)
     }
 
     // Each symbol can be read with its name.
@@ -83,18 +72,5 @@ impl<'data, E: EndianParse> WholeSymbols<'data, E> {
             }
             Err(_) => None,
         }
-    }
-
-    /// The symbols in order, each with the bytes of its name: as many as there are.
-    pub fn iter(&self) -> WholeSymbolsIter<'data, E>
-        ensures items { let (symbols, strings) = whole_symbols self.now in
-            named_left result ≡ with_names strings (table_items symbol_reads symbols) }
-        ensures names { AllNamed (whole_symbols self.now).1 (table_items symbol_reads (whole_symbols self.now).0) }
-        ensures all { length (named_left result) ≡ table_len symbol_reads (whole_symbols self.now).0 }
-    {
-        list_is_what_get_gives::<Symbol>();
-        iter_gives_len_records(&self.symbols);
-        let _ = self.symbols.len();
-        WholeSymbolsIter::new(self.symbols, self.strings)
     }
 }

@@ -2,6 +2,7 @@
 -- sizes follow from their headers, and that of a GNU hash section from its buckets and chain words too.
 use Rattle.std.specs.Prelude.{ℕ, ◌+◌, ◌-◌, ◌*◌, ◌%◌, zero, suc, max, Bool, ◌||◌, ◌==◌, nat_lt, if◌then◌else◌}
 use Rattle.std.specs.Prelude.{List, fold, take, Option, Some, None, Result, Ok, Err, ok_or}
+use Rattle.elf_abi.specs.Values.{dt_gnu_hash, dt_hash}
 use Rattle.elf_parts.specs.GnuFind.{GnuTable, gnu_of_parts, gnu_section}
 use Rattle.elf_parts.specs.Hash.{sysv_header_layout, word_at, word_count}
 use Rattle.elf_parts.specs.SysvFind.{SysvTable, sysv_section}
@@ -19,7 +20,6 @@ use Rattle.elf_dynamic.specs.declared.dynamic_view.error.DynamicError.{DynamicEr
 use Rattle.elf_dynamic.specs.declared.dynamic_view.error.DynamicError.TheVariants.{Read, UnendedChain}
 use Rattle.elf_dynamic.specs.dynamic_view.Entries.{value_of}
 use Rattle.elf_dynamic.specs.dynamic_view.Segments.{bytes_from, bytes_of}
-use Rattle.elf_dynamic.specs.dynamic_view.Tags.{dt_gnu_hash, dt_hash}
 
 -- ---- SysV
 

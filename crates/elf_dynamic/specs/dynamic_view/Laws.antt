@@ -8,10 +8,10 @@ use Rattle.elf.specs.Answers.{symbol_sections}
 use Rattle.elf.specs.ObjectFile.{Extent, FileOf, ObjectFile, Partial}
 use Rattle.elf_dynamic.specs.declared.dynamic_view.error.DynamicError.{DynamicError}
 use Rattle.elf_dynamic.specs.declared.dynamic_view.error.DynamicError.TheVariants.{Missing}
-use Rattle.elf_dynamic.specs.Linked.{linked_by}
+use Rattle.elf_dynamic.specs.Linked.{dynamic_symbols, dynamic_versions, linked_by}
 use Rattle.elf_dynamic.specs.dynamic_view.Entries.{dynamic_table}
 use Rattle.elf_dynamic.specs.dynamic_view.Hashes.{gnu_hash, sysv_hash}
-use Rattle.elf_dynamic.specs.dynamic_view.Relocations.{plt_relocations, relas, relr_bytes, rels}
+use Rattle.elf_dynamic.specs.dynamic_view.Relocations.{plt_relocations, relas, relocations, relr_bytes, rels}
 use Rattle.elf_dynamic.specs.dynamic_view.Segments.{bytes_from, bytes_of}
 use Rattle.elf_dynamic.specs.dynamic_view.Strings.{string_part, strings}
 use Rattle.elf_dynamic.specs.dynamic_view.Symbols.{symbol_count, symbol_part, symbols, symbols_with_strings}
@@ -31,6 +31,8 @@ ViewFollows is_missing whole part = FollowsBy Missing is_missing whole part
 pub record FollowsWhole (is_missing : ℕ × ℕ → Bool) (whole : ObjectFile) (part : FileOf Partial) : Type 0 where
   pub table : ViewFollows is_missing (dynamic_table whole) (dynamic_table part)
   pub linked : ViewFollows is_missing (linked_by whole) (linked_by part)
+  pub linked_symbols : ViewFollows is_missing (dynamic_symbols whole) (dynamic_symbols part)
+  pub linked_versions : ViewFollows is_missing (dynamic_versions whole) (dynamic_versions part)
   pub bytes_of : (a n : ℕ) → ViewFollows is_missing (bytes_of whole a n) (bytes_of part a n)
   pub bytes_from : (a : ℕ) → ViewFollows is_missing (bytes_from whole a) (bytes_from part a)
   pub strings : (es : List Dyn) → ViewFollows is_missing (strings whole es) (strings part es)
@@ -44,6 +46,7 @@ pub record FollowsWhole (is_missing : ℕ × ℕ → Bool) (whole : ObjectFile) 
   pub relas : (es : List Dyn) → ViewFollows is_missing (relas whole es) (relas part es)
   pub relr_bytes : (es : List Dyn) → ViewFollows is_missing (relr_bytes whole es) (relr_bytes part es)
   pub plt : (es : List Dyn) → ViewFollows is_missing (plt_relocations whole es) (plt_relocations part es)
+  pub relocations : (es : List Dyn) → ViewFollows is_missing (relocations whole es) (relocations part es)
   pub indexes : (es : List Dyn) → ViewFollows is_missing (version_indexes whole es) (version_indexes part es)
   pub needs : (es : List Dyn) → ViewFollows is_missing (version_needs whole es) (version_needs part es)
   pub definitions : (es : List Dyn) →

@@ -1,14 +1,18 @@
 -- The relocations (gABI, chapter "Dynamic Section").
-use Rattle.std.specs.Prelude.{ℕ, ℤ, pos, Bool, if◌then◌else◌, List, Option, Result, Err}
+use Rattle.std.specs.Prelude.{ℕ, ◌+◌, ℤ, pos, max, Bool, if◌then◌else◌, List, [], ◌∷◌, map, Option, Some, None}
+use Rattle.std.specs.Prelude.{Result, Ok, Err}
 use Rattle.std.specs.Option.{option_map}
 use Rattle.std.specs.Ordering.{int_eq}
+use Rattle.elf_abi.specs.Values.{dt_jmprel, dt_pltrel, dt_pltrelsz, dt_rel, dt_rela, dt_relaent, dt_relasz, dt_relent}
+use Rattle.elf_abi.specs.Values.{dt_relr, dt_relrent, dt_relrsz, dt_relsz}
 use Rattle.elf_records.specs.Class.{address_size}
 use Rattle.elf_records.specs.Number.{ok_map}
 use Rattle.elf_records.specs.Record.{◌>>=◌, size_by}
-use Rattle.elf_records.specs.Relocation.{rel_layout, rel_reads, rela_layout, rela_reads}
+use Rattle.elf_records.specs.Relocation.{fields_of_rel, fields_of_rela, rel_layout, rel_reads, rela_layout, rela_reads}
 use Rattle.elf_records.specs.declared.dynamic.Dyn.{Dyn}
 use Rattle.elf_records.specs.declared.relocation.Rel.{Rel}
 use Rattle.elf_records.specs.declared.relocation.Rela.{Rela}
+use Rattle.elf_records.specs.declared.relocation.RelocationFields.{RelocationFields}
 use Rattle.elf.specs.Answers.{rels_left, relas_left}
 use Rattle.elf.specs.Headers.{if_found}
 use Rattle.elf.specs.ObjectFile.{Extent, FileOf, records_of}
@@ -18,8 +22,6 @@ use Rattle.elf_dynamic.specs.declared.dynamic_view.relocations.PltRelocations.{P
 use Rattle.elf_dynamic.specs.declared.dynamic_view.relocations.PltRelocations.TheVariants.{Rel as OfRel, Rela as OfRela}
 use Rattle.elf_dynamic.specs.dynamic_view.Entries.{entry_size, required, value_of}
 use Rattle.elf_dynamic.specs.dynamic_view.Segments.{bytes_of}
-use Rattle.elf_dynamic.specs.dynamic_view.Tags.{dt_jmprel, dt_pltrel, dt_pltrelsz, dt_rel, dt_rela, dt_relaent}
-use Rattle.elf_dynamic.specs.dynamic_view.Tags.{dt_relasz, dt_relent, dt_relr, dt_relrent, dt_relrsz, dt_relsz}
 
 -- ---- a table whose entries say its address, its size, and the size of a record of it
 
@@ -78,3 +80,39 @@ plt_relocations file entries = if_found (plt_at file entries) (value_of dt_jmpre
 abbrev pub plt_left : {E : Type 0} → PltRelocations E → PltList
 plt_left (OfRel rels) = Rels (rels_left rels)
 plt_left (OfRela relas) = Relas (relas_left relas)
+
+-- ---- all of them, each by the index of its symbol and its type
+
+abbrev pub parts_of : RelocationFields → ℕ × ℕ
+parts_of r = (r.r_sym, r.r_type)
+
+-- those of relocations with these fields
+abbrev pub all_parts : {P : Type 0} → (P → RelocationFields) → List P → List (ℕ × ℕ)
+all_parts fields relocations = map (λ r. parts_of (fields r)) relocations
+
+abbrev pub list_of : Option PltList → List (ℕ × ℕ)
+list_of None = []
+list_of (Some (Rels rels)) = all_parts fields_of_rel rels
+list_of (Some (Relas relas)) = all_parts fields_of_rela relas
+
+-- those without addends, those with addends, and those of the procedure linkage table
+pub record RelocationLists : Type 0 where
+  pub rels : List (ℕ × ℕ)
+  pub relas : List (ℕ × ℕ)
+  pub plt : List (ℕ × ℕ)
+
+abbrev pub relocations : {x : Extent} → FileOf x → List Dyn → Result RelocationLists DynamicError
+relocations file entries =
+    rels file entries >>= λ r. relas file entries >>= λ a. plt_relocations file entries >>= λ p.
+    Ok (record { rels = list_of (option_map Rels r); relas = list_of (option_map Relas a); plt = list_of p })
+
+-- one past the largest index of a symbol that they name, and at least this number
+abbrev pub named_count : ℕ → List (ℕ × ℕ) → ℕ
+named_count count [] = count
+named_count count (r ∷ relocations) = named_count (max count (r.0 + 1)) relocations
+
+abbrev pub count_all : RelocationLists → ℕ
+count_all r = named_count (named_count (named_count 0 r.rels) r.relas) r.plt
+
+abbrev pub count_named : {x : Extent} → FileOf x → List Dyn → Result ℕ DynamicError
+count_named file entries = ok_map count_all (relocations file entries)

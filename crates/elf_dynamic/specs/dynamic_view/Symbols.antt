@@ -1,6 +1,7 @@
 -- The symbol table. No entry gives its size: the hash sections say how many symbols there are (gABI, chapters "Dynamic
--- Section" and "Hash Table"; GNU's hash section).
-use Rattle.std.specs.Prelude.{ℕ, List, Option, Some, None, Result, Ok, ok_or}
+-- Section" and "Hash Table"; GNU's hash section), and relocations name symbols.
+use Rattle.std.specs.Prelude.{ℕ, max, List, Option, Some, None, Result, Ok, Err, ok_or}
+use Rattle.elf_abi.specs.Values.{dt_gnu_hash, dt_hash, dt_syment, dt_symtab}
 use Rattle.elf_records.specs.Number.{ok_map}
 use Rattle.elf_records.specs.Record.{◌>>=◌, size_by}
 use Rattle.elf_records.specs.Symbol.{symbol_layout}
@@ -9,12 +10,12 @@ use Rattle.elf_records.specs.declared.dynamic.Dyn.{Dyn}
 use Rattle.elf.specs.Headers.{if_found}
 use Rattle.elf.specs.ObjectFile.{Extent, FileOf, table_of}
 use Rattle.elf_dynamic.specs.declared.dynamic_view.error.DynamicError.{DynamicError}
-use Rattle.elf_dynamic.specs.declared.dynamic_view.error.DynamicError.TheVariants.{UnknownCount}
+use Rattle.elf_dynamic.specs.declared.dynamic_view.error.DynamicError.TheVariants.{Missing, UnknownCount}
 use Rattle.elf_dynamic.specs.dynamic_view.Entries.{entry_size, required, value_of}
 use Rattle.elf_dynamic.specs.dynamic_view.Hashes.{gnu_count, gnu_from, sysv_header}
+use Rattle.elf_dynamic.specs.dynamic_view.Relocations.{count_named}
 use Rattle.elf_dynamic.specs.dynamic_view.Segments.{range_of, records_part}
 use Rattle.elf_dynamic.specs.dynamic_view.Strings.{strings}
-use Rattle.elf_dynamic.specs.dynamic_view.Tags.{dt_gnu_hash, dt_hash, dt_symtab, dt_syment}
 
 -- ---- how many there are
 
@@ -34,6 +35,17 @@ symbol_count file entries = count_by file (value_of dt_hash entries) (value_of d
 abbrev pub known_count : {x : Extent} → FileOf x → List Dyn → Result ℕ DynamicError
 known_count file entries = symbol_count file entries >>= λ count. ok_or count UnknownCount
 
+-- the number that relocations name, or 0 if they cannot be read; unless that is since bytes are not loaded
+abbrev pub or_none : Result ℕ DynamicError → Result ℕ DynamicError
+or_none (Ok count) = Ok count
+or_none (Err (Missing range)) = Err (Missing range)
+or_none (Err e) = Ok 0
+
+-- A hash section counts the symbols that it finds. A GNU hash section need not count those before them, which other
+-- files define, and relocations name these: so there are as many as it counts, and at least as many as these name.
+abbrev pub total_count : {x : Extent} → FileOf x → List Dyn → Result ℕ DynamicError
+total_count file entries = known_count file entries >>= λ counted. ok_map (max counted) (or_none (count_named file entries))
+
 -- ---- the symbols
 
 -- the range of the symbol table in the file, by its start and its size
@@ -41,7 +53,7 @@ abbrev pub symbol_part : {x : Extent} → FileOf x → List Dyn → Result (ℕ 
 symbol_part file entries =
     required dt_symtab entries >>= λ address.
     entry_size dt_syment (size_by symbol_layout file.class) entries >>= λ size.
-    known_count file entries >>= λ count. records_part file.segments address count size
+    total_count file entries >>= λ count. records_part file.segments address count size
 
 abbrev pub symbols : {x : Extent} → FileOf x → List Dyn → Result Table DynamicError
 symbols file entries = symbol_part file entries >>= λ part. ok_map (table_of file) (range_of file part)

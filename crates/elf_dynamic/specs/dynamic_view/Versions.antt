@@ -1,5 +1,6 @@
 -- The versions of symbols (GNU symbol versioning), by the addresses that the entries give.
 use Rattle.std.specs.Prelude.{ℕ, ℤ, List, Option, Result, Ok}
+use Rattle.elf_abi.specs.Values.{dt_verdef, dt_verdefnum, dt_verneed, dt_verneednum, dt_versym}
 use Rattle.elf_parts.specs.gnu_symver.Lists.{ver_defs, ver_needs}
 use Rattle.elf_parts.specs.gnu_symver.Records.{version_index_layout}
 use Rattle.elf_parts.specs.gnu_symver.Table.{Definitions, Entries, Needs, Versions}
@@ -13,13 +14,12 @@ use Rattle.elf_dynamic.specs.declared.dynamic_view.error.DynamicError.{DynamicEr
 use Rattle.elf_dynamic.specs.dynamic_view.Entries.{required, value_of}
 use Rattle.elf_dynamic.specs.dynamic_view.Segments.{bytes_from, range_of, records_part}
 use Rattle.elf_dynamic.specs.dynamic_view.Strings.{strings}
-use Rattle.elf_dynamic.specs.dynamic_view.Symbols.{known_count}
-use Rattle.elf_dynamic.specs.dynamic_view.Tags.{dt_verdef, dt_verdefnum, dt_verneed, dt_verneednum, dt_versym}
+use Rattle.elf_dynamic.specs.dynamic_view.Symbols.{total_count}
 
 -- the version indexes at an address, one for each symbol
 abbrev pub indexes_at : {x : Extent} → FileOf x → List Dyn → ℕ → Result Table DynamicError
 indexes_at file entries address =
-    known_count file entries >>= λ count.
+    total_count file entries >>= λ count.
     records_part file.segments address count (size_by version_index_layout file.class) >>= λ part.
     ok_map (table_of file) (range_of file part)
 

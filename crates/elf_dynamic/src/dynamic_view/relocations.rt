@@ -4,11 +4,11 @@ ghost use Rattle.std.specs.Option.{option_map};
 ghost use Rattle.elf.specs.Answers.{relas_left, rels_left};
 ghost use Rattle.elf.specs.Parts.{loaded};
 ghost use Rattle.elf_dynamic.specs.dynamic_view.Entries.{IsPlainError, entries_in};
-ghost use Rattle.elf_dynamic.specs.dynamic_view.Relocations.{plt_at, plt_left, plt_of, plt_relocations, relas};
-ghost use Rattle.elf_dynamic.specs.dynamic_view.Relocations.{relr_bytes, rels, table_at, table_bytes};
+ghost use Rattle.elf_dynamic.specs.dynamic_view.Relocations.{all_parts, count_named, named_count, plt_at, plt_left, plt_of};
+ghost use Rattle.elf_dynamic.specs.dynamic_view.Relocations.{plt_relocations, relas, relr_bytes, rels, table_at, table_bytes};
 ghost use Rattle.elf_records.specs.Class.{address_size};
 ghost use Rattle.elf_records.specs.Number.{ok_map};
-ghost use Rattle.elf_records.specs.Table.{table_view};
+ghost use Rattle.elf_records.specs.Table.{items_left, table_view};
 
 use crate::dynamic_view::entries::{entry_size, required, value};
 use crate::dynamic_view::error::DynamicError;
@@ -19,8 +19,8 @@ use elf::dynamic::DynamicTable;
 use elf::endian::EndianParse;
 use elf::file::Class;
 use elf::reader::Reader;
-use elf::relocation::{Rel, RelIterator, Rela, RelaIterator};
-use elf_parts::parse::ParseAt;
+use elf::relocation::{Rel, RelIterator, Rela, RelaIterator, Relocation};
+use elf_parts::parse::{ParseAt, ParsingIterator};
 
 // The tags of the entries that give the address of a table, its size, and the size of a record of it.
 struct TableTags {
@@ -206,5 +206,41 @@ pub fn plt_relocations<'f, E: EndianParse, R: Reader<E>>(
     match value(entries, abi::DT_JMPREL) {
         Some(address) => plt_at(file, entries, address).map(Some),
         None => Ok(None),
+    }
+}
+
+// One past the largest index of a symbol that relocations name, and at least this number.
+fn count_each<E: EndianParse, P: Relocation>(
+    count: u64,
+    relocations: ParsingIterator<'_, E, P>,
+) -> u64
+    ensures { result ≡ named_count count (all_parts P.fields (items_left P.reads relocations.entry)) }
+{
+    let mut count = count;
+    for relocation in relocations {
+        count = count.max(relocation.fields().r_sym as u64 + 1);
+    }
+    count
+}
+
+// How many symbols there are at least, since relocations name them.
+pub(crate) fn count_named<E: EndianParse, R: Reader<E>>(
+    file: &R,
+    entries: &DynamicTable<'_, E>,
+) -> Result<u64, DynamicError>
+    ensures { result
+        ≡ count_named (loaded (R.file file.now) (R.ranges file.now)) (entries_in (table_view entries.now)) }
+{
+    let mut count = 0;
+    if let Some(rels) = rels(file, entries)? {
+        count = count_each(count, rels);
+    }
+    if let Some(relas) = relas(file, entries)? {
+        count = count_each(count, relas);
+    }
+    match plt_relocations(file, entries)? {
+        Some(PltRelocations::Rel(rels)) => Ok(count_each(count, rels)),
+        Some(PltRelocations::Rela(relas)) => Ok(count_each(count, relas)),
+        None => Ok(count),
     }
 }

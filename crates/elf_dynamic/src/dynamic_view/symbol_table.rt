@@ -1,17 +1,17 @@
 //! The symbol table.
-ghost use Rattle.std.specs.Prelude.{◌≡◌, IfErr};
-ghost use Rattle.std.specs.Option.{option_map};
+ghost use Rattle.std.specs.Prelude.{◌≡◌};
 ghost use Rattle.elf.specs.Answers.{symbols_view};
 ghost use Rattle.elf.specs.Parts.{loaded};
-ghost use Rattle.elf_dynamic.specs.dynamic_view.Entries.{IsPlainError, entries_in};
-ghost use Rattle.elf_dynamic.specs.dynamic_view.Symbols.{count_by, count_by_gnu, known_count, symbol_count};
-ghost use Rattle.elf_dynamic.specs.dynamic_view.Symbols.{symbol_part, symbols, symbols_with_strings};
+ghost use Rattle.elf_dynamic.specs.dynamic_view.Entries.{entries_in};
+ghost use Rattle.elf_dynamic.specs.dynamic_view.Symbols.{count_by, count_by_gnu, known_count, or_none, symbol_count};
+ghost use Rattle.elf_dynamic.specs.dynamic_view.Symbols.{symbol_part, symbols, symbols_with_strings, total_count};
 ghost use Rattle.elf_records.specs.Number.{ok_map};
 ghost use Rattle.elf_records.specs.Table.{table_view};
 
 use crate::dynamic_view::entries::{entry_size, required, value};
 use crate::dynamic_view::error::DynamicError;
 use crate::dynamic_view::hashes::{gnu_count, gnu_from, sysv_header};
+use crate::dynamic_view::relocations::count_named;
 use crate::dynamic_view::segments::{range_of, records_part};
 use crate::dynamic_view::string_table::strings;
 use elf::abi;
@@ -69,7 +69,7 @@ pub fn symbol_count<E: EndianParse, R: Reader<E>>(
 }
 
 // The same if it has to be known.
-pub(crate) fn known_count<E: EndianParse, R: Reader<E>>(
+fn known_count<E: EndianParse, R: Reader<E>>(
     file: &R,
     entries: &DynamicTable<'_, E>,
 ) -> Result<u64, DynamicError>
@@ -82,7 +82,33 @@ pub(crate) fn known_count<E: EndianParse, R: Reader<E>>(
     }
 }
 
-/// Returns the range of the symbol table in the file, by its start and its size.
+// The number that relocations name, or 0 if they cannot be read; unless that is since bytes are not loaded.
+fn or_none(named: Result<u64, DynamicError>) -> Result<u64, DynamicError>
+    ensures { result ≡ or_none named }
+{
+    match named {
+        Ok(count) => Ok(count),
+        Err(DynamicError::Missing(range)) => Err(DynamicError::Missing(range)),
+        Err(_) => Ok(0),
+    }
+}
+
+// How many symbols there are: as many as a hash section counts, and at least as many as relocations name.
+pub(crate) fn total_count<E: EndianParse, R: Reader<E>>(
+    file: &R,
+    entries: &DynamicTable<'_, E>,
+) -> Result<u64, DynamicError>
+    ensures { result
+        ≡ total_count (loaded (R.file file.now) (R.ranges file.now)) (entries_in (table_view entries.now)) }
+{
+    let counted = known_count(file, entries)?;
+    let named = or_none(count_named(file, entries))?;
+    Ok(counted.max(named))
+}
+
+/// Returns the range of the symbol table in the file, by its start and its size. There are as many symbols as
+/// `symbol_count` says, and at least as many as the relocations name that can be read: a GNU hash section need not count
+/// the symbols that other files define.
 ///
 /// Errors, in order: `NoEntry(DT_SYMTAB)`; `NoEntry(DT_SYMENT)`; `EntrySize` if the size of a symbol is not the one of
 /// the file's class; those of `symbol_count`; `UnknownCount` if that returns `None`; `NotLoaded` with the address of
@@ -97,7 +123,7 @@ pub fn symbol_part<E: EndianParse, R: Reader<E>>(
     let address = required(entries, abi::DT_SYMTAB)?;
     let expected = Symbol::size_for(file.class()) as u64;
     let size = entry_size(entries, abi::DT_SYMENT, expected)?;
-    let count = known_count(file, entries)?;
+    let count = total_count(file, entries)?;
     records_part(file, address, count, size)
 }
 

@@ -1,9 +1,8 @@
 //! The versions of symbols.
-ghost use Rattle.std.specs.Prelude.{◌≡◌, IfErr};
+ghost use Rattle.std.specs.Prelude.{◌≡◌};
 ghost use Rattle.std.specs.Option.{option_map};
-ghost use Rattle.elf.specs.Headers.{if_found};
 ghost use Rattle.elf.specs.Parts.{loaded};
-ghost use Rattle.elf_dynamic.specs.dynamic_view.Entries.{entries_in, value_of};
+ghost use Rattle.elf_dynamic.specs.dynamic_view.Entries.{entries_in};
 ghost use Rattle.elf_dynamic.specs.dynamic_view.Versions.{indexes_at, version_definitions, version_entries};
 ghost use Rattle.elf_dynamic.specs.dynamic_view.Versions.{version_indexes, version_needs, versions, versions_of};
 ghost use Rattle.elf_parts.specs.gnu_symver.Lists.{entries_in as entries_from, entries_left};
@@ -15,7 +14,7 @@ use crate::dynamic_view::entries::{required, value};
 use crate::dynamic_view::error::DynamicError;
 use crate::dynamic_view::segments::{bytes_from, range_of, records_part};
 use crate::dynamic_view::string_table::strings;
-use crate::dynamic_view::symbol_table::known_count;
+use crate::dynamic_view::symbol_table::total_count;
 use elf::abi;
 use elf::dynamic::DynamicTable;
 use elf::endian::EndianParse;
@@ -37,14 +36,15 @@ fn indexes_at<'f, E: EndianParse, R: Reader<E>>(
     ensures { ok_map table_view result
         ≡ indexes_at (loaded (R.file file.now) (R.ranges file.now)) (entries_in (table_view entries.now)) address }
 {
-    let count = known_count(file, entries)?;
+    let count = total_count(file, entries)?;
     let size = VersionIndex::size_for(file.class()) as u64;
     let part = records_part(file, address, count, size)?;
     let bytes = range_of(file, part)?;
     Ok(VersionIndexTable::new(file.endianness(), file.class(), bytes))
 }
 
-/// Returns the version indexes of the symbols (`DT_VERSYM`), or `None` if no entry gives their address.
+/// Returns the version indexes of the symbols (`DT_VERSYM`), one for each of `symbols`, or `None` if no entry gives their
+/// address.
 ///
 /// Errors, in order: those of `symbol_count`; `UnknownCount` if that returns `None`; those of `bytes_of`.
 pub fn version_indexes<'f, E: EndianParse, R: Reader<E>>(

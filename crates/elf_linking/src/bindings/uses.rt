@@ -4,7 +4,8 @@ ghost use Rattle.elf.specs.ObjectFile.{Partial};
 ghost use Rattle.elf.specs.Parts.{loaded};
 ghost use Rattle.elf_records.specs.Number.{ok_map};
 ghost use Rattle.elf_records.specs.Table.{items_left};
-ghost use Rattle.elf_linking.specs.SymbolUses.{all_parts, is_dynamic, section_uses, use_added, uses_after};
+ghost use Rattle.elf_dynamic.specs.dynamic_view.Relocations.{all_parts};
+ghost use Rattle.elf_linking.specs.SymbolUses.{is_dynamic, section_uses, use_added, uses_after};
 ghost use Rattle.elf_linking.specs.SymbolUses.{uses_at, uses_by, uses_fault, with_use};
 ghost use Rattle.elf_linking.specs.declared.bindings.uses.UsesError.TheVariants.{Dynamic as IsDynamic};
 
@@ -159,7 +160,7 @@ fn add_section<E: EndianParse, R: Reader<E>>(
     Ok(())
 }
 
-// Whether the section has relocations of symbols for dynamic linking.
+// Whether the section has relocations of dynamic symbols.
 pub(crate) fn is_dynamic<E: EndianParse, R: Reader<E>>(file: &R, section: &SectionHeader) -> bool
     ensures { result ≡ is_dynamic (loaded (R.file file.now) (R.ranges file.now)) section.now }
 {
@@ -172,7 +173,7 @@ pub(crate) fn is_dynamic<E: EndianParse, R: Reader<E>>(file: &R, section: &Secti
     }
 }
 
-/// Adds the uses that the relocations of a file make of its symbols for dynamic linking, in the order of their table:
+/// Adds the uses that the relocations of a file make of its dynamic symbols, in the order of their table:
 /// those of each section of type `SHT_REL` or `SHT_RELA` that is linked to a section of type `SHT_DYNSYM`.
 ///
 /// Errors, of the first such section with one, in order: `TooLarge` if its size and those of the ones before it are

@@ -3,7 +3,7 @@
 use crate::table::Names;
 
 /// The types with their names.
-pub const TYPES: Names<u32> = &[
+pub static TYPES: Names<u32> = &[
     (0, "R_AARCH64_NONE"),
     (1, "R_AARCH64_P32_ABS32"),
     (180, "R_AARCH64_P32_COPY"),

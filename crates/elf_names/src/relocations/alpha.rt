@@ -3,7 +3,7 @@
 use crate::table::Names;
 
 /// The types with their names.
-pub const TYPES: Names<u32> = &[
+pub static TYPES: Names<u32> = &[
     (0, "R_ALPHA_NONE"),
     (1, "R_ALPHA_REFLONG"),
     (2, "R_ALPHA_REFQUAD"),

@@ -3,7 +3,7 @@
 use crate::table::Names;
 
 /// The types with their names.
-pub const TYPES: Names<u32> = &[
+pub static TYPES: Names<u32> = &[
     (0, "R_ARC_NONE"),
     (1, "R_ARC_8"),
     (2, "R_ARC_16"),

@@ -3,7 +3,7 @@
 use crate::table::Names;
 
 /// The types with their names.
-pub const TYPES: Names<u32> = &[
+pub static TYPES: Names<u32> = &[
     (0, "R_IA64_NONE"),
     (33, "R_IA64_IMM14"),
     (34, "R_IA64_IMM22"),

@@ -3,7 +3,7 @@
 use crate::table::Names;
 
 /// The types with their names.
-pub const TYPES: Names<u32> = &[
+pub static TYPES: Names<u32> = &[
     (0, "R_OR1K_NONE"),
     (1, "R_OR1K_32"),
     (2, "R_OR1K_16"),

@@ -3,7 +3,7 @@
 use crate::table::Names;
 
 /// The types with their names.
-pub const TYPES: Names<u32> = &[
+pub static TYPES: Names<u32> = &[
     (0, "R_X86_64_NONE"),
     (1, "R_X86_64_64"),
     (2, "R_X86_64_PC32"),

@@ -1,5 +1,6 @@
 //! How often the writer of a run is flushed, and that nothing is written after a failed write.
 use crate::listing::writers::{Plan, PlannedWriter, WILLING};
+use crate::sizes::bytes_at;
 use crate::small_files::VERSIONED;
 use elf::MemSource;
 use elf::endian::AnyEndian;
@@ -34,28 +35,26 @@ const TYPES: [u8; 10] = [2, 3, 4, 5, 6, 7, 8, 9, 10, 11];
 /// The file of five sections with another type of section 2, with 1,600 bytes in that section, and with a segment of
 /// notes after it. So most lists of the section do not fit into the buffer of a line.
 fn with_type(alloc: Global, kind: u8) -> Result<Vec<u8>, AllocError> {
-    let mut file = Vec::from_slice(alloc, &VERSIONED)?;
-    file.resize(2000, 0)?;
-    for (place, bytes) in [
-        // sh_type, sh_size and sh_addralign of section 2
-        (220, &[kind][..]),
-        (236, &[0x40, 0x06]),
-        (248, &[4]),
-        // e_phoff, e_phentsize, e_phnum
-        (28, &[0xa4, 0x06]),
-        (42, &[32]),
-        (44, &[1]),
-        // p_type, p_offset, p_filesz, p_align
-        (1700, &[4]),
-        (1704, &[0x08, 0x07]),
-        (1716, &[120]),
-        (1728, &[4]),
-    ] {
-        for (found, byte) in file.iter_mut().skip(place).zip(bytes) {
-            *found = *byte;
-        }
-    }
-    Ok(file)
+    bytes_at(
+        alloc,
+        2000,
+        &[
+            (0, &VERSIONED),
+            // sh_type, sh_size and sh_addralign of section 2
+            (220, &[kind]),
+            (236, &[0x40, 0x06]),
+            (248, &[4]),
+            // e_phoff, e_phentsize, e_phnum
+            (28, &[0xa4, 0x06]),
+            (42, &[32]),
+            (44, &[1]),
+            // p_type, p_offset, p_filesz, p_align
+            (1700, &[4]),
+            (1704, &[0x08, 0x07]),
+            (1716, &[120]),
+            (1728, &[4]),
+        ],
+    )
 }
 
 /// Runs all calls by one of the readers.
@@ -78,15 +77,20 @@ fn is_flushed(alloc: Global, is_stream: bool, data: &[u8]) -> bool {
     run(alloc, is_stream, data, &mut out).is_ok() && out.flushes == CALLS.len()
 }
 
-/// Whether a run does not use its writer after a failed write.
-fn is_silent(alloc: Global, is_stream: bool, data: &[u8], writes_before: usize) -> bool {
-    let plan = Plan {
-        writes_before,
-        ..WILLING
-    };
-    let mut out = PlannedWriter::new(alloc, plan);
-    let stopped = run(alloc, is_stream, data, &mut out);
-    matches!(&stopped, Err(RunError::Write { .. })) && !out.is_used_after_failure
+/// Whether a run does not use its writer after a failed write, whichever of the first writes it is.
+fn is_silent(alloc: Global, is_stream: bool, data: &[u8]) -> bool {
+    for writes_before in 0..20 {
+        let plan = Plan {
+            writes_before,
+            ..WILLING
+        };
+        let mut out = PlannedWriter::new(alloc, plan);
+        let stopped = run(alloc, is_stream, data, &mut out);
+        if !matches!(&stopped, Err(RunError::Write { .. })) || out.is_used_after_failure {
+            return false;
+        }
+    }
+    true
 }
 
 #[test]
@@ -94,13 +98,11 @@ fn each_call_is_flushed_once(rt: HostRuntime) -> Result<(), AllocError> {
     for kind in TYPES {
         let data = with_type(rt.alloc(), kind)?;
         for is_stream in [false, true] {
-            assert!(rt; is_flushed(rt.alloc(), is_stream, &data), "{kind}");
-            for writes_before in 0..20 {
-                assert!(rt;
-                    is_silent(rt.alloc(), is_stream, &data, writes_before),
-                    "{kind}, {writes_before}"
-                );
-            }
+            let is_flushed = is_flushed(rt.alloc(), is_stream, &data);
+            assert!(rt;
+                is_flushed && is_silent(rt.alloc(), is_stream, &data),
+                "{kind}"
+            );
         }
     }
     Ok(())

@@ -174,10 +174,13 @@ fn words_make_a_request(rt: HostRuntime) -> Result<(), RequestError> {
     let words = ["bytes", "F", "sections", "header", "sections"];
     let request = parse_words(rt.alloc(), &words)?;
     let want = [Call::Sections, Call::Header, Call::Sections];
-    assert!(rt; request.file == "F" && request.calls.as_slice() == want.as_slice());
-    assert!(rt; begins(rt.alloc(), &request, b"end 0\nheader class=64 "));
+    let is_parsed = request.file == "F" && request.calls.as_slice() == want.as_slice();
+    let is_run = begins(rt.alloc(), &request, b"end 0\nheader class=64 ");
     let refused = parse_words(rt.alloc(), &words[..2]).err();
-    assert!(rt; refused == Some(RequestError::Usage), "{refused:?}");
+    assert!(rt;
+        is_parsed && is_run && refused == Some(RequestError::Usage),
+        "{refused:?}"
+    );
     Ok(())
 }
 

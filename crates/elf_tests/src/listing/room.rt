@@ -1,6 +1,7 @@
 //! Runs in little memory. `rt try --test` has an allocator of its own, which does not run out: there these tests fail.
 use crate::listing::writers::{PlannedWriter, WILLING};
 use crate::memory::all_memory_but;
+use crate::sizes::bytes_at;
 use crate::small_files::HASHED;
 use elf::{MemSource, ParseError};
 use elfshow::file_system::MemFile;
@@ -27,14 +28,9 @@ const SOUND: &str = "sound indexed=1\n";
 
 /// The file of two hash sections, in which the SysV section, at 116, has zeros after its chains up to this size.
 fn with_large_section(alloc: Global) -> Result<Vec<u8>, AllocError> {
-    let mut file = Vec::from_slice(alloc, &HASHED)?;
-    file.resize(116 + SECTION, 0)?;
-    let [a, b, c, d] = (SECTION as u32).to_le_bytes();
+    let size = (SECTION as u32).to_le_bytes();
     // sh_size of section 4
-    for (found, byte) in file.iter_mut().skip(316).zip([a, b, c, d]) {
-        *found = byte;
-    }
-    Ok(file)
+    bytes_at(alloc, 116 + SECTION, &[(0, &HASHED), (316, &size)])
 }
 
 // The stream caches the section, and the check reads it there.

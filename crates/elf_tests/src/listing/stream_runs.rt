@@ -2,16 +2,14 @@
 use crate::listing::writers::{FLUSHLESS, Plan, PlannedWriter, WILLING};
 use crate::small_files::{HASHED, TWO_SECTIONS};
 use crate::sources;
-use crate::sources::{PlannedSource, is_of_source};
+use crate::sources::{InMemory, is_of_source, open};
 use elf::endian::AnyEndian;
-use elf::{ElfStream, MemSource, ParseError};
+use elf::{MemSource, ParseError};
 use elfshow::runs::{Call, RunError, run_bytes, run_stream};
 use std::alloc::Global;
 use std::io::ErrorKind;
 use std::process::Abort;
 use std::test::Fail;
-
-type Planned<'a> = ElfStream<AnyEndian, PlannedSource<'a>, Global>;
 
 /// The text of the first calls, by the reader over bytes.
 fn text_of(alloc: Global, data: &[u8], calls: &[Call<'_>], done: usize) -> Result<Vec<u8>, Fail> {
@@ -40,7 +38,7 @@ fn run_behind(
     out: &mut Vec<u8>,
 ) -> Option<Result<(), RunError>> {
     let plan = sources::Plan::new(64, Some(calls_before));
-    match Planned::open_stream(alloc, PlannedSource::new(data, &plan)) {
+    match open(alloc, data, &plan) {
         Ok(mut stream) => Some(run_stream(&mut stream, calls, out)),
         Err(_) => None,
     }
@@ -82,10 +80,9 @@ fn faults_in_turn(
 #[test]
 fn a_failing_source_stops_the_run(rt: HostRuntime) -> Result<(), Fail> {
     let names = faults_in_turn(&rt, &TWO_SECTIONS, &[Call::Header, Call::Sections])?;
-    assert!(rt; names > 0);
     let symbols = [Call::Header, Call::Sysv(4), Call::Gnu(3), Call::DynSyms];
     let checked = faults_in_turn(&rt, &HASHED, &symbols)?;
-    assert!(rt; checked > 1);
+    assert!(rt; names > 0 && checked > 1, "{names} {checked}");
     Ok(())
 }
 
@@ -97,8 +94,7 @@ const HEADER: &[u8] =
 #[test]
 fn a_fault_in_the_second_call_is_reported(rt: HostRuntime) -> Result<(), Fail> {
     let plan = sources::Plan::new(64, None);
-    let source = PlannedSource::new(&TWO_SECTIONS, &plan);
-    let mut stream = Planned::open_stream(rt.alloc(), source)?;
+    let mut stream = open(rt.alloc(), &TWO_SECTIONS, &plan)?;
     plan.calls_before.set(Some(0));
     let mut out = Vec::new(rt.alloc());
     let stopped = run_stream(&mut stream, &CALLS, &mut out);
@@ -113,8 +109,7 @@ fn stopped_by(
     alloc: Global,
     out: &mut PlannedWriter,
 ) -> Result<Option<(usize, ErrorKind)>, ParseError> {
-    let source = MemSource::new(&TWO_SECTIONS);
-    let mut stream = ElfStream::<AnyEndian, MemSource<'_>, Global>::open_stream(alloc, source)?;
+    let mut stream = InMemory::open_stream(alloc, MemSource::new(&TWO_SECTIONS))?;
     Ok(match run_stream(&mut stream, &CALLS, out) {
         Err(RunError::Write { done, error }) => Some((done, error.kind())),
         _ => None,
@@ -122,25 +117,20 @@ fn stopped_by(
 }
 
 #[test]
-fn a_full_writer_stops_the_run(rt: HostRuntime) -> Result<(), Fail> {
+fn a_writer_that_fails_stops_the_run(rt: HostRuntime) -> Result<(), Fail> {
     let first = text_of(rt.alloc(), &TWO_SECTIONS, &CALLS, 1)?;
-    let plan = Plan {
+    let full = Plan {
         room: first.len(),
         ..WILLING
     };
-    let mut out = PlannedWriter::new(rt.alloc(), plan);
-    let stopped = stopped_by(rt.alloc(), &mut out)?;
-    let is_stopped = stopped == Some((1, ErrorKind::StorageFull));
-    assert!(rt; is_stopped && out.written.as_slice() == first.as_slice());
-    Ok(())
-}
-
-#[test]
-fn a_failed_flush_stops_the_run(rt: HostRuntime) -> Result<(), Fail> {
-    let first = text_of(rt.alloc(), &TWO_SECTIONS, &CALLS, 1)?;
-    let mut out = PlannedWriter::new(rt.alloc(), FLUSHLESS);
-    let stopped = stopped_by(rt.alloc(), &mut out)?;
-    let is_stopped = stopped == Some((0, ErrorKind::BrokenPipe));
-    assert!(rt; is_stopped && out.written.as_slice() == first.as_slice());
+    let stops = [
+        (full, (1, ErrorKind::StorageFull)),
+        (FLUSHLESS, (0, ErrorKind::BrokenPipe)),
+    ];
+    for (plan, stop) in stops {
+        let mut out = PlannedWriter::new(rt.alloc(), plan);
+        let stopped = stopped_by(rt.alloc(), &mut out)?;
+        assert!(rt; stopped == Some(stop) && out.written.as_slice() == first.as_slice());
+    }
     Ok(())
 }

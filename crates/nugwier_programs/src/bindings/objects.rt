@@ -131,7 +131,7 @@ pub(crate) fn open_files<'a, F: Files, T: Tell>(
     Ok(opened)
 }
 
-// Finds what look-ups search of a file. Returns `None` if it has no symbols for dynamic linking.
+// Finds what look-ups search of a file. Returns `None` if it has no dynamic symbols.
 fn search<'a>(file: &'a OpenFile<'a>) -> Result<Option<WithTable<'a>>, SearchFault>
     ensures { IsFileSearched (open_view file.now) (searching_of file.now.path.now result) }
 {
@@ -154,7 +154,7 @@ fn search<'a>(file: &'a OpenFile<'a>) -> Result<Option<WithTable<'a>>, SearchFau
     Ok(Some((bound, table)))
 }
 
-/// Adds a file, or says that it cannot be searched. One without symbols for dynamic linking need not be.
+/// Adds a file, or says that it cannot be searched. One without dynamic symbols need not be.
 pub(crate) fn add_file<'a, T: Tell>(
     file: &'a OpenFile<'a>,
     found: &mut Vec<WithTable<'a>>,

@@ -4,11 +4,11 @@ use Rattle.elf_records.specs.StringTable.{string_at, strings_view}
 use Rattle.elf_records.specs.Symbol.{symbol_reads}
 use Rattle.elf_records.specs.Table.{table_get, table_in}
 use Rattle.elf_parts.specs.Hash.{named_symbol}
-use Rattle.elf_c.specs.Named.{named_shown, named_view}
+use Rattle.elf_c.specs.Named.{IsNamed}
 use Rattle.elf_c.specs.declared.named.NugwierNamedSymbol.{NugwierNamedSymbol}
 use Rattle.elf_c.specs.declared.records.NugwierSymbol.{NugwierSymbol}
-use Rattle.elf_c.proofs.Filling.{rest_more}
-use Rattle.elf_c.proofs.NamedFilling.{name_read, named_more}
+use Rattle.elf_c.proofs.Filling.{one_read}
+use Rattle.elf_c.proofs.NamedFilling.{name_read}
 use Rattle.elf_c.proofs.OwnBytes.{more_left, more_room, own_record}
 use Rattle.elf_c.proofs.named.fill_quickly.Goals as goal
 use Rattle.std.proofs.Common.{refl}
@@ -34,15 +34,13 @@ loop-count-preserved g c =
     let within : n < length xs = search rules in
     let read : table_get symbol_reads t (first + n) ≡ Ok symbol =
     own_record symbol_reads t (first + n) size left own symbol refl c.size_for-size.ensures c.bytes_from.ensures.short
-    kept.3 kept.4 split.0 split.1 (sym c.parse_at.ensures.value ∙ c.in-Ok.is) in
+    kept.within kept.left split.0 split.1 (sym c.parse_at.ensures.value ∙ c.in-Ok.is) in
     let text : Ok name.now ≡ string_at strings symbol.st_name =
     sym (ap (λ r. ok_map (λ (b : Bor (List ℕ)). b.now) r) c.in-Ok-get_raw.is) ∙ c.get_raw.ensures in
     let found = name_read t strings (first + n) symbol name.now read text in
-    let shown : Ok (named_view place) ≡ ok_map named_shown (named_symbol t strings (first + n)) =
-    ap (λ (s : NugwierSymbol). Ok (s, name.now)) c.show.ensures ∙ ap (λ r. ok_map named_shown r) (sym found) in (
-      search rules,
-      named_more t strings first n xs place within kept.1 shown,
-      rest_more n xs c.args.places.now place kept.2,
-      more_room bytes left first n size kept.3 kept.4 split.0,
-      more_left bytes left c.in-Some-split_at_checked.after.now first n size kept.4 split.2,
-    )
+    record {
+      read = one_read IsNamed (named_symbol t strings) first n c.args.places.now xs (symbol, name.now) place within kept.read found
+          (ap (λ (s : NugwierSymbol). (s, name.now)) c.show.ensures);
+      within = more_room bytes left first n size kept.within kept.left split.0;
+      left = more_left bytes left c.in-Some-split_at_checked.after.now first n size kept.left split.2;
+    }

@@ -1,17 +1,18 @@
 use Rattle.std.proofs.Common.{length, ◌-◌, ◌+◌, ◌*◌, ◌≡◌, ◌≤◌, drop}
+use Rattle.elf_parts.specs.Hash.{named_symbol}
 use Rattle.elf_records.specs.StringTable.{strings_view}
 use Rattle.elf_records.specs.Table.{table_in}
-use Rattle.elf_c.specs.Named.{AreNamed}
+use Rattle.elf_c.specs.Filled.{AreRead}
+use Rattle.elf_c.specs.Named.{IsNamed}
 use Rattle.elf_c.proofs.named.fill_quickly.Given as goal
 
--- the symbols so far are those of the table, the places after them are as they were, and the bytes after them are left
+-- the places so far hold the symbols of the table, and the bytes after these are left
 abbrev pub invariant-loop-count : goal.invariant-loop-count
-invariant-loop-count g l =
-    (l.count ≤ length l.places) ×
-    AreNamed (table_in (g.E.EndianParse.little l.endian) l.class l.bytes) (strings_view l.strings) l.first l.count l.places ×
-    (drop l.count l.places ≡ drop l.count l.initial.places) ×
-    ((l.first + l.count) * l.size ≤ length l.bytes) ×
-    (l.left ≡ drop ((l.first + l.count) * l.size) l.bytes)
+invariant-loop-count g l = record {
+  read : AreRead IsNamed (named_symbol (table_in (g.E.EndianParse.little l.endian) l.class l.bytes) (strings_view l.strings)) l.first l.count l.initial.places l.places;
+  within : (l.first + l.count) * l.size ≤ length l.bytes;
+  left : l.left ≡ drop ((l.first + l.count) * l.size) l.bytes;
+}
 
 abbrev pub decreases-loop-count : goal.decreases-loop-count
 decreases-loop-count g l = length l.initial.places - l.count

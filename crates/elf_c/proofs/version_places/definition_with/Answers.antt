@@ -1,5 +1,5 @@
 -- What a walk finds is the first definition with the index.
-use Rattle.std.proofs.Common.{◌≡◌, ℕ, Some, ap, sym, subst, ◌∙◌}
+use Rattle.std.proofs.Common.{rules, ◌≡◌, ℕ, None, Some, ap, refl, sym, subst, ◌∙◌}
 use Rattle.std.specs.Option.{option_map}
 use Rattle.elf_parts.specs.declared.gnu_symver.records.VerDef.{VerDef}
 use Rattle.elf_c.specs.Tables.{table_of_c}
@@ -21,6 +21,9 @@ returns-in-Some-first_defined c = λ held.
 pub returns-in-None : goal.returns-in-None
 returns-in-None c = λ held.
     let e = c.args.definitions.now in
-    c.no_definition.ensures (table_of_c e.entries)
-    ∙ ap (option_map (linked_definition (table_of_c e.entries))) c.in-None.ensures
+    let t = table_of_c e.entries in
+    let empty : c.default.result.found ≡ 0 = search rules in
+    let nothing : defined_held t c.default.result ≡ None = rw empty refl in
+    nothing
+    ∙ ap (option_map (linked_definition t)) c.in-None.ensures
     ∙ sym (first_linked e c.args.index)

@@ -1,9 +1,8 @@
-use Rattle.std.proofs.Common.{◌≡◌, ◌++◌, [], ◌∷◌, List, length, ap, sym, ◌∙◌, subst, arith, rules}
+use Rattle.std.proofs.Common.{◌≡◌, [], List, length, ap, sym, ◌∙◌, subst, arith, rules}
 use Rattle.elf.specs.ElfBytes.{view}
 use Rattle.elf.specs.ObjectFile.{ObjectFile, object_file}
 use Rattle.elf_check.specs.AllFaults.{AreFaults, Subject, subjects}
 use Rattle.elf_check.specs.FaultWalk.{Checking, checking}
-use Rattle.elf_check.specs.declared.faults.FileFault.{FileFault}
 use Rattle.elf_check.proofs.Walking.{faults_end, faults_more, fewer_left, none_yet}
 use Rattle.elf_check.proofs.all.all_faults_in.Goals as goal
 

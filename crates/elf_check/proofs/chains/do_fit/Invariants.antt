@@ -9,4 +9,4 @@ invariant-loop-record g l =
     let left = links_left g.R.ParseAt.reads.record_at g.R.Linked.next_distance in
     (goal.iterator-loop-record g).can_next l.record-iterator ×
     (goal.iterator-loop-record g).is_finite l.record-iterator ×
-    (l.limit + total_extent g.R.Extent.extent (left l.record-iterator) ≡ l.room + total_extent g.R.Extent.extent (left l.fn.links))
+    (l.limit + total_extent g.R.Entry.extent (left l.record-iterator) ≡ l.room + total_extent g.R.Entry.extent (left l.fn.links))

@@ -12,4 +12,4 @@ returns-in-Some g c =
 pub returns-in-None : goal.returns-in-None
 returns-in-None g c =
     let whole = object_file g.E.EndianParse.little (view c.args.file.now) in
-    known whole c.args.chosen.now c.definitions_fault.result c.is_none.result (search rules) c.in-None.ensures c.definitions_fault.ensures
+    known whole c.args.chosen.now c.entries_fault-in-None.result c.is_none.result (search rules) c.in-None.ensures c.entries_fault-in-None.ensures

@@ -1,6 +1,9 @@
+use Rattle.std.proofs.Common.{◌≡◌, IfSome}
 use Rattle.elf.specs.ElfStream.{Keeps}
 use Rattle.elf_linking.proofs.links.load_relocations.Given as goal
 
--- the stream is still of the same file
+-- the stream is still of the same file, and its source has not failed
 abbrev pub invariant-loop-index : goal.invariant-loop-index
-invariant-loop-index g l = Keeps l.fn.stream l.stream
+invariant-loop-index g l =
+    Keeps l.fn.stream l.stream
+    × IfSome l.fn.stream.content (λ _. l.stream.failures ≡ l.fn.stream.failures)

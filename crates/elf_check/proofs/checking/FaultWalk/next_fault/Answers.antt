@@ -1,7 +1,6 @@
-use Rattle.std.proofs.Common.{◌≡◌, ◌<◌, ◌≤◌, ◌+◌, ◌-◌, ◌++◌, List, [], ◌∷◌, ℕ, length, slice_get, Some, refl, ap, sym, ◌∙◌, arith}
+use Rattle.std.proofs.Common.{◌≡◌, ◌<◌, ◌≤◌, ◌+◌, ◌-◌, [], ◌∷◌, length, slice_get, Some, refl, ap, sym, ◌∙◌, arith}
 use Rattle.std.proofs.lemmas.List.{length-append}
 use Rattle.std.proofs.lemmas.Option.{slice_get_within}
-use Rattle.elf_check.specs.AllFaults.{Subject}
 use Rattle.elf_check.specs.FaultWalk.{Checking, checking}
 use Rattle.elf_check.specs.Stages.{checked_in, count_of, subject_of}
 use Rattle.elf_check.proofs.Walking.{checked_first, none_after, passes_none, passes_on, passes_one, some_after}

@@ -1,4 +1,4 @@
-use Rattle.std.proofs.Common.{ℕ, ◌+◌, ◌-◌, length}
+use Rattle.std.proofs.Common.{◌+◌, ◌-◌, length}
 use Rattle.elf_check.specs.FaultWalk.{checking}
 use Rattle.elf_check.proofs.Walking.{Passes}
 use Rattle.elf_check.proofs.checking.FaultWalk.next_fault.Given as goal

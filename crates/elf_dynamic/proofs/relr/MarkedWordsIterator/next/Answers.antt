@@ -1,4 +1,4 @@
--- A word that is marked is the first that was left; one that is not is passed over.
+-- A word that is marked is the first that was left; one that is not is skipped.
 use Rattle.std.proofs.Common.{length, ap, sym, ◌∙◌, arith}
 use Rattle.elf_dynamic.proofs.Marked.{marked_here, marked_later, marked_none}
 use Rattle.elf_dynamic.proofs.relr.MarkedWordsIterator.next.Goals as goal

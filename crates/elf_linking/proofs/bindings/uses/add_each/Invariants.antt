@@ -1,6 +1,7 @@
 use Rattle.std.proofs.Common.{◌≡◌}
 use Rattle.elf_records.specs.Table.{items_left}
-use Rattle.elf_linking.specs.SymbolUses.{all_parts, uses_after}
+use Rattle.elf_dynamic.specs.dynamic_view.Relocations.{all_parts}
+use Rattle.elf_linking.specs.SymbolUses.{uses_after}
 use Rattle.elf_linking.proofs.bindings.uses.add_each.Given as goal
 
 -- after the relocations that are left the uses are those after all

@@ -9,7 +9,8 @@ use Rattle.nugwier_report.specs.declared.problem.Item.TheVariants.{SymbolName, S
 use Rattle.nugwier_report.specs.declared.problem.Place.{Place}
 use Rattle.nugwier_report.proofs.Saying.{then_said}
 use Rattle.nugwier_symbols.specs.SymbolRows.{form_view, shown_letter, symbol_layout, symbol_members, version_known, version_read}
-use Rattle.nugwier_symbols.specs.SymbolVersions.{Version, version_view}
+use Rattle.nugwier_report.specs.SymbolVersion.{Version}
+use Rattle.nugwier_symbols.specs.SymbolVersions.{version_view}
 use Rattle.nugwier_symbols.proofs.symbol_rows.SymbolRowRow.tell.Goals as goal
 
 pub returns : goal.returns

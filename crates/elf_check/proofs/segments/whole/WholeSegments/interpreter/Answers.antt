@@ -1,7 +1,7 @@
 use Rattle.std.proofs.Common.{sym}
+use Rattle.elf_abi.specs.Values.{pt_interp}
 use Rattle.elf.specs.ElfBytes.{view}
 use Rattle.elf.specs.ObjectFile.{object_file}
-use Rattle.elf_check.specs.Segments.{pt_interp}
 use Rattle.elf_check.proofs.SegmentsFound.{found_sound, found_type}
 use Rattle.elf_check.proofs.segments.whole.WholeSegments.interpreter.Goals as goal
 

@@ -8,11 +8,11 @@ use Rattle.elf_records.specs.Number.{bytes_at}
 use Rattle.elf_records.specs.declared.parse.ParseError.TheVariants.{IntegerOverflow, SliceReadError}
 use Rattle.elf_reading.specs.Cache.{IsOf, Piece, is_cached, part_at, range_of}
 use Rattle.elf.proofs.stream.Parted.{range_follows}
+use Rattle.elf.specs.LoadedRanges.{is_missing, ranges_in}
 use Rattle.elf.specs.ObjectFile.{err_map}
 use Rattle.elf.specs.Parts.{Follows, loaded_range}
 use Rattle.elf.specs.declared.read_error.ReadError.{ReadError}
 use Rattle.elf.specs.declared.read_error.ReadError.TheVariants.{Parse, NotLoaded}
-use Rattle.elf_c.specs.Loaded.{is_missing, ranges_in}
 
 -- the bytes of a range by the tests that decide
 abbrev range_by : ℕ → ℕ → Bool → Option (List ℕ) → Bool → Result (List ℕ) ReadError

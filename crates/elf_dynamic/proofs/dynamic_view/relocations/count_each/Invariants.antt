@@ -1,8 +1,7 @@
 use Rattle.std.proofs.Common.{◌≡◌}
 use Rattle.elf_records.specs.Table.{items_left}
-use Rattle.elf_linking.specs.BySegments.{named_count}
-use Rattle.elf_linking.specs.SymbolUses.{all_parts}
-use Rattle.elf_linking.proofs.by_segments.count_each.Given as goal
+use Rattle.elf_dynamic.specs.dynamic_view.Relocations.{all_parts, named_count}
+use Rattle.elf_dynamic.proofs.dynamic_view.relocations.count_each.Given as goal
 
 -- the number after the relocations that are left is that after all
 abbrev pub invariant-loop-relocation : goal.invariant-loop-relocation
