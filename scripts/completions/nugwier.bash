@@ -1,7 +1,7 @@
 # Completion of nugwier for bash: commands, options and files.
 _nugwier() {
     local word=${COMP_WORDS[COMP_CWORD]} before=${COMP_WORDS[COMP_CWORD - 1]}
-    local commands="list symbols needed exports build-id plan check harden address tree bindings"
+    local commands="list symbols needed exports build-id plan check harden address tree bindings starts"
     COMPREPLY=()
     # The sign in --root=FOLDER is a word of its own.
     if [ "$word" = = ]; then
@@ -29,7 +29,7 @@ _nugwier() {
                 return
                 ;;
         esac
-    elif [ "${COMP_WORDS[1]}" = tree ] || [ "${COMP_WORDS[1]}" = bindings ]; then
+    elif [[ ${COMP_WORDS[1]} =~ ^(tree|bindings|starts)$ ]]; then
         if [ "$before" = --search ] || [ "$before" = --root ]; then
             mapfile -t COMPREPLY < <(compgen -d -- "$word")
             return

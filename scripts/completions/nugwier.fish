@@ -1,5 +1,5 @@
 # Completion of nugwier for fish: commands, options and files.
-set -l commands list symbols needed exports build-id plan check harden address tree bindings
+set -l commands list symbols needed exports build-id plan check harden address tree bindings starts
 complete -c nugwier -n "not __fish_seen_subcommand_from $commands" -f
 complete -c nugwier -n "not __fish_seen_subcommand_from $commands" -a list -d "headers, tables and contents"
 complete -c nugwier -n "not __fish_seen_subcommand_from $commands" -a symbols -d "symbols, as nm lists them"
@@ -12,6 +12,7 @@ complete -c nugwier -n "not __fish_seen_subcommand_from $commands" -a harden -d 
 complete -c nugwier -n "not __fish_seen_subcommand_from $commands" -a address -d "symbols at addresses"
 complete -c nugwier -n "not __fish_seen_subcommand_from $commands" -a tree -d "libraries that a program loads"
 complete -c nugwier -n "not __fish_seen_subcommand_from $commands" -a bindings -d "what symbols bind to"
+complete -c nugwier -n "not __fish_seen_subcommand_from $commands" -a starts -d "whether a program starts"
 complete -c nugwier -n "not __fish_seen_subcommand_from $commands" -a help -d "how a command is called"
 complete -c nugwier -n "__fish_seen_subcommand_from help" -f -a "$commands"
 complete -c nugwier -n "not __fish_seen_subcommand_from $commands" -s V -l version -d "the version"
@@ -49,6 +50,6 @@ complete -c nugwier -n "__fish_seen_subcommand_from symbols" -s P -d "as POSIX h
 complete -c nugwier -n "__fish_seen_subcommand_from symbols" -s f -l format -x -a "posix bsd" -d format
 complete -c nugwier -n "__fish_seen_subcommand_from exports" -l functions -d "functions alone"
 complete -c nugwier -n "__fish_seen_subcommand_from harden" -l require -x -a "pie relro bindnow nx wx canary fortify runpath ibt shstk bti pac stripped" -d "what a file must have"
-complete -c nugwier -n "__fish_seen_subcommand_from tree bindings" -l search -x -a "(__fish_complete_directories)" -d "folder of libraries"
-complete -c nugwier -n "__fish_seen_subcommand_from tree bindings" -l root -x -a "(__fish_complete_directories)" -d "folder of an image"
-complete -c nugwier -n "__fish_seen_subcommand_from tree bindings" -l no-cache -d "without ld.so.cache"
+complete -c nugwier -n "__fish_seen_subcommand_from tree bindings starts" -l search -x -a "(__fish_complete_directories)" -d "folder of libraries"
+complete -c nugwier -n "__fish_seen_subcommand_from tree bindings starts" -l root -x -a "(__fish_complete_directories)" -d "folder of an image"
+complete -c nugwier -n "__fish_seen_subcommand_from tree bindings starts" -l no-cache -d "without ld.so.cache"

@@ -294,7 +294,7 @@ impl<E: EndianParse, S: StreamSource, A: Allocator + Copy> ElfStream<E, S, A> {
     /// Loads the ranges of a section, of the section that its `sh_link` names, and of the one that this names in turn:
     /// relocations and hash tables link to symbols, and symbols to strings. So the functions of `elf::reader` find what
     /// they need of the section. A section of type `SHT_NOBITS` has no range, and a link that names no section is
-    /// passed over. A range that does not lie in the source is not loaded, and is no error. Errors: `IOError` if the
+    /// ignored. A range that does not lie in the source is not loaded, and is no error. Errors: `IOError` if the
     /// source failed, `OutOfMemory`.
     pub fn load_linked(&mut self, shdr: &SectionHeader) -> Result<(), ParseError>
         ensures { LoadsRanges (linked_ranges (headers_alone E.little self.old) shdr.now) self.old self.new result }

@@ -81,6 +81,14 @@ pub fn thinness(bytes: &[u8]) -> Option<bool>
 
 /// Returns the members of an archive, in order. Indexes of symbols and the table of long names are no members. The error
 /// is that the bytes do not begin as an archive does.
+///
+/// ```rust
+/// let archive = b"!<arch>\nhello.o/        0           0     0     644     4         `\n\x7fELF";
+/// for member in members_of(archive.as_slice())? {
+///     let member = member?;
+///     println!(rt; "{} at {}", from_utf8(member.name)?, member.offset)?; // hello.o at 8
+/// }
+/// ```
 pub fn members_of(bytes: &[u8]) -> Result<Members<'_>, ArchiveError>
     ensures items { ok_map members_left result ≡ members_in bytes.now }
     ensures few { IfOk result (λ members. length (members_left members) ≤ length bytes.now) }

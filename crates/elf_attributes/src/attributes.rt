@@ -201,6 +201,12 @@ pub struct Attribute<'a> {
 }
 
 /// Returns the first attribute, and the bytes after it.
+///
+/// ```rust
+/// // Tag_CPU_arch of Arm is 6, and 10 is version 7.
+/// let (attribute, _) = first_attribute(Vendor::Arm, b"\x06\x0a".as_slice())?;
+/// println!(rt; "{}: {:?}", attribute.tag, attribute.number)?; // 6: Some(10)
+/// ```
 pub fn first_attribute(
     vendor: Vendor,
     bytes: &[u8],

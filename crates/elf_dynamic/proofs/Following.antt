@@ -2,7 +2,10 @@
 use Rattle.std.specs.Prelude.{max}
 use Rattle.std.proofs.Common.{◌≡◌, ℕ, ℤ, Bool, true, false, List, inl, inr, Option, Some, None, Result, Ok, Err, refl, ap, ◌∙◌, if◌then◌else◌}
 use Rattle.std.specs.Option.{option_map}
-use Rattle.elf_abi.specs.Values.{dt_gnu_hash, dt_hash, dt_jmprel, dt_pltrel, dt_pltrelsz, dt_rel, dt_rela, dt_relaent, dt_relasz, dt_relent, dt_relr, dt_relrent, dt_relrsz, dt_relsz, dt_syment, dt_symtab, dt_verdef, dt_verdefnum, dt_verneed, dt_verneednum, dt_versym}
+use Rattle.elf_abi.specs.Values.{dt_gnu_hash, dt_hash, dt_jmprel, dt_pltrel, dt_pltrelsz, dt_rel, dt_rela, dt_relaent, dt_relasz, dt_relent, dt_relr, dt_relrent, dt_relrsz, dt_relsz, dt_syment, dt_symtab, dt_verdef, dt_verdefnum, dt_verneed, dt_verneednum, dt_versym, sht_gnu_hash, sht_hash}
+use Rattle.elf_hash_check.specs.declared.hashcheck.any.HashKind.{HashKind}
+use Rattle.elf_hash_check.specs.declared.hashcheck.any.HashKind.TheVariants.{Gnu, Sysv}
+use Rattle.elf_parts.specs.GnuFind.{GnuTable}
 use Rattle.elf_parts.specs.gnu_symver.Lists.{ver_defs, ver_needs}
 use Rattle.elf_parts.specs.gnu_symver.Records.{version_index_layout}
 use Rattle.elf_records.specs.Class.{address_size}
@@ -13,20 +16,22 @@ use Rattle.elf_records.specs.Symbol.{symbol_layout}
 use Rattle.elf_records.specs.Table.{Table}
 use Rattle.elf_records.specs.declared.dynamic.Dyn.{Dyn}
 use Rattle.elf_records.specs.declared.parse.ParseError.{ParseError}
+use Rattle.elf_records.specs.declared.section.SectionHeader.{SectionHeader}
 use Rattle.elf_records.specs.declared.segment.ProgramHeader.{ProgramHeader}
 use Rattle.elf.specs.Answers.{dynamic_symbol_table, segment_dynamic, symbol_version_table}
-use Rattle.elf.specs.Headers.{first_segment_of, if_found}
+use Rattle.elf.specs.Data.{section_data}
+use Rattle.elf.specs.Headers.{first_section_of, first_segment_of, if_found}
 use Rattle.elf.specs.ObjectFile.{FileOf, ObjectFile, Partial, Whole, err_map, records_of, table_of}
 use Rattle.elf.specs.Parts.{ArePartOf, Follows, Ranges, loaded}
-use Rattle.elf.specs.Readers.{DynamicSymbolTable, SymbolVersionTable}
+use Rattle.elf.specs.Readers.{DynamicSymbolTable, SectionData, SymbolVersionTable}
 use Rattle.elf.specs.declared.read_error.ReadError.{ReadError}
 use Rattle.elf.specs.declared.read_error.ReadError.TheVariants.{NotLoaded, Parse}
 use Rattle.elf.proofs.Partly.{follows_found, follows_map, part_follows}
 use Rattle.elf_dynamic.specs.declared.dynamic_view.error.DynamicError.{DynamicError}
 use Rattle.elf_dynamic.specs.declared.dynamic_view.error.DynamicError.TheVariants.{Missing, UnknownKind}
-use Rattle.elf_dynamic.specs.Linked.{Entries, Nothing, Place, Sections, linked_by, place_of, symbols_by, versions_by}
+use Rattle.elf_dynamic.specs.Linked.{Entries, Nothing, Place, Sections, entry_hash, gnu_bytes, gnu_size, hash_by, hash_in, hash_of, hash_with, linked_by, place_of, section_hash, symbols_by, sysv_bytes, versions_by}
 use Rattle.elf_dynamic.specs.dynamic_view.Entries.{dynamic_table, entry_size, read_error, required, value_of}
-use Rattle.elf_dynamic.specs.dynamic_view.Hashes.{gnu_at, gnu_count, gnu_from, sysv_at, sysv_header, sysv_size}
+use Rattle.elf_dynamic.specs.dynamic_view.Hashes.{gnu_at, gnu_count, gnu_from, gnu_hash, sysv_at, sysv_header, sysv_size}
 use Rattle.elf_dynamic.specs.dynamic_view.Laws.{FollowsBy, FollowsWhole, ViewFollows}
 use Rattle.elf_dynamic.specs.dynamic_view.Relocations.{PltList, Rels, Relas, count_all, count_named, is_kind, plt_at, plt_of, plt_relocations, relas, relocations, rels, table_at, table_bytes}
 use Rattle.elf_dynamic.specs.dynamic_view.Segments.{bytes_from, bytes_of, part_of, range_of, records_part, rest_of}
@@ -221,12 +226,36 @@ module _ (whole : ObjectFile) (range : Ranges) (is_missing : ℕ × ℕ → Bool
   versions_by_follow (Entries es) = versions_follow es
   versions_by_follow Nothing = inl refl
 
+  gnu_hash_follows : (es : List Dyn) → ViewFollows is_missing (gnu_hash whole es) (gnu_hash part es)
+  gnu_hash_follows es = found_follows Missing is_missing (gnu_at whole) (gnu_at part) (value_of dt_gnu_hash es) gnu_at_follows
+
+  hash_in_follows : (kind : HashKind) (s : SectionHeader) → Follows is_missing (hash_in whole kind s) (hash_in part kind s)
+  hash_in_follows kind s = follows_map is_missing (λ found. Some (kind, found.0)) (section_data whole s) (section_data part s) (part_follows whole range is_missing each (SectionData s))
+
+  hash_of_follows : (gnu sysv : Option SectionHeader) → Follows is_missing (hash_of whole gnu sysv) (hash_of part gnu sysv)
+  hash_of_follows (Some s) sysv = hash_in_follows Gnu s
+  hash_of_follows None (Some s) = hash_in_follows Sysv s
+  hash_of_follows None None = inl refl
+
+  hash_with_follows : (es : List Dyn) (gnu : Option GnuTable) → ViewFollows is_missing (hash_with whole es gnu) (hash_with part es gnu)
+  hash_with_follows es (Some t) = map_follows Missing is_missing _ (gnu_bytes whole es t) (gnu_bytes part es t) (same_then Missing is_missing (required dt_gnu_hash es) _ _ (λ a. bytes_follow a (gnu_size whole.class t)))
+  hash_with_follows es None = found_follows Missing is_missing (sysv_bytes whole) (sysv_bytes part) (value_of dt_hash es) (λ a. map_follows Missing is_missing _ (bytes_from whole a) (bytes_from part a) (rest_follows a))
+
+  entry_hash_follows : (es : List Dyn) → ViewFollows is_missing (entry_hash whole es) (entry_hash part es)
+  entry_hash_follows es = then_follows Missing is_missing (gnu_hash whole es) (gnu_hash part es) _ _ (gnu_hash_follows es) (hash_with_follows es)
+
+  hash_by_follows : (p : Place) → ViewFollows is_missing (hash_by whole p) (hash_by part p)
+  hash_by_follows Sections = read (section_hash whole) (section_hash part) (hash_of_follows (first_section_of sht_gnu_hash whole.sections) (first_section_of sht_hash whole.sections))
+  hash_by_follows (Entries es) = entry_hash_follows es
+  hash_by_follows Nothing = inl refl
+
   pub all_follow : FollowsWhole is_missing whole part
   all_follow = record {
     table = table_follows;
     linked = linked_follows;
     linked_symbols = then_follows Missing is_missing (linked_by whole) (linked_by part) _ _ linked_follows symbols_by_follow;
     linked_versions = then_follows Missing is_missing (linked_by whole) (linked_by part) _ _ linked_follows versions_by_follow;
+    linked_hash = then_follows Missing is_missing (linked_by whole) (linked_by part) _ _ linked_follows hash_by_follows;
     bytes_of = bytes_follow;
     bytes_from = rest_follows;
     strings = strings_follow;
@@ -234,7 +263,7 @@ module _ (whole : ObjectFile) (range : Ranges) (is_missing : ℕ × ℕ → Bool
     symbols = symbols_follow;
     symbols_with_strings = with_strings_follow;
     sysv_hash = λ es. found_follows Missing is_missing (sysv_at whole) (sysv_at part) (value_of dt_hash es) sysv_follows;
-    gnu_hash = λ es. found_follows Missing is_missing (gnu_at whole) (gnu_at part) (value_of dt_gnu_hash es) gnu_at_follows;
+    gnu_hash = gnu_hash_follows;
     rels = rels_follow;
     relas = relas_follow;
     relr_bytes = λ es. sized_follows dt_relr dt_relrsz dt_relrent (address_size whole.class) es;

@@ -1,12 +1,11 @@
 -- The definitions of versions of a file that is sound have names, and how long the tables of its symbols and version indexes are.
 use Rattle.std.proofs.Common.{◌≡◌, ℕ, ◌<◌, ◌^◌, List, length, Option, Some, None, Result, Ok, ap, sym, ◌∙◌, subst, arith}
-use Rattle.std.proofs.lemmas.Grind.{common_steps}
 use Rattle.std.specs.Option.{IfSome}
 use Rattle.std.specs.Result.{IsOkAnd}
 use Rattle.elf_abi.specs.Values.{sht_dynsym}
 use Rattle.elf_records.specs.Number.{ok_map}
 use Rattle.elf_records.specs.Record.{◌>>=◌, size_by}
-use Rattle.elf_records.specs.inner.RecordLaws.{bind-ok, bytes_at-ok, ok_map-ok}
+use Rattle.elf_records.specs.inner.RecordLaws.{bind-ok, ok_map-ok}
 use Rattle.elf_records.specs.declared.parse.ParseError.{ParseError}
 use Rattle.elf_records.specs.declared.section.SectionHeader.{SectionHeader}
 use Rattle.elf_records.specs.Table.{Table}

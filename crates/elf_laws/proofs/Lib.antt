@@ -30,3 +30,9 @@ pub mod BuiltSound
 pub mod BuiltKnown
 pub mod BuiltBytes
 pub mod BuiltGnuBytes
+pub mod Made
+pub mod Promises
+pub mod Refusals
+pub mod FoundInFiles
+pub mod Listings
+pub mod Taken

@@ -15,3 +15,13 @@ pub mod WrittenFiles
 pub mod Files
 pub mod Known
 pub mod SoundSections
+-- the calls of both readers as values, and that a call was made
+pub mod Asked
+-- lists of calls of a stream, with those that load ranges
+pub mod Steps
+-- what is found in hash sections that are checked, of one section and of a list of files
+pub mod Found
+-- what a listing by both readers leaves
+pub mod Listed
+-- the promises of the library on one page
+pub mod Headline

@@ -1,12 +1,20 @@
 //! Laws of files that were checked: of their faults, of their listing, and of look-ups over them; that files as the
 //! standard lays them out are read back (`written`), that hash sections as linkers fill them are sound (`built`), and
-//! which of two objects a reference binds to (`binding`). They are theorems for the proofs of callers. Each is the
-//! contract of a function that computes nothing; a caller uses the law by calling it. `checked_object` makes the objects
-//! of a look-up.
+//! which of two objects a reference binds to (`binding`); and the promises of the library on one page (`headline`). They
+//! are theorems for the proofs of callers. Each is the contract of a function that computes nothing; a caller uses the
+//! law by calling it. `checked_object` makes the objects of a look-up, and `asked` the calls of which the laws of both
+//! readers speak. `found` checks the hash section of a file, or of each of a list of files, and looks a name up. `listed`
+//! runs the calls of a listing by both readers. `steps` makes lists of calls of a
+//! stream, with those that load ranges, and closes it.
 #![tactic(auto)]
 
+pub mod asked;
 pub mod binding;
 pub mod built;
+pub mod found;
+pub mod headline;
+pub mod listed;
+pub mod steps;
 pub mod written;
 
 ghost use Rattle.std.specs.Prelude.{◌≡◌, List, Ok};

@@ -21,7 +21,7 @@ pub data Folder : Type 0 where
   unreadable : Folder
   has : List Place → Folder
 
--- the content of the file at each path, which file it is, if that is told, and what folder is there
+-- the content of the file at each path, which file it is, if that is known, and what folder is there
 pub record KnownFiles : Type 0 where
   pub contents : List ℕ → Option (List ℕ)
   pub identities : List ℕ → Option Identity

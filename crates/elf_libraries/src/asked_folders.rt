@@ -46,7 +46,7 @@ impl AskedFolders {
     }
 }
 
-// Whether a folder is there, or cannot be told of.
+// Whether a folder is there, or may be: its name may not be UTF-8, or its metadata may not be readable.
 fn is_there(rt: &HostRuntime, folder: &[u8]) -> bool {
     let Ok(folder) = from_utf8(folder) else {
         return true;

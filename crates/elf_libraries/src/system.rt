@@ -15,7 +15,7 @@ use std::os::unix::fs::{FileTypeExt, MetadataExt};
 use std::str::from_utf8;
 use std::{fs, io};
 
-// How many bytes of a pipe are read first: those by which the format of a file is told.
+// How many bytes of a pipe are read first: those that show the format of a file.
 const FRONT: u64 = 16;
 
 /// The files of the operating system.
@@ -92,7 +92,7 @@ impl Files for SystemFiles<'_> {
         if_read(read_front(self.rt, path, most))
     }
 
-    // What cannot be told of a path is no folder: reading it tells why.
+    // A path without metadata is no folder: the error comes when it is read.
     fn folder(&self, path: &str) -> io::Result<Option<Vec<Entry>>> {
         match fs::metadata(self.rt, path) {
             Ok(found) if found.is_dir() && path != "-" => Ok(Some(entries_in(self.rt, path)?)),
@@ -163,7 +163,8 @@ fn entry_of(alloc: Global, item: io::Result<DirEntry>) -> io::Result<Option<Entr
     Ok(Some(Entry { path, kind }))
 }
 
-// Links, devices, pipes and sockets are left out. If nothing can be told of a name, reading it tells why.
+// Links, devices, pipes and sockets are left out. A name whose type is not known counts as a file: if it cannot be
+// read, the error comes then.
 fn kind_of(item: &DirEntry) -> Option<EntryKind> {
     match item.file_type() {
         Ok(kind) if kind.is_dir() => Some(EntryKind::Folder),

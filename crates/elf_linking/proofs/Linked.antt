@@ -1,45 +1,32 @@
 -- What is looked up and bound of a partly loaded file is that of the whole file, or a range is missing.
-use Rattle.std.proofs.Common.{◌≡◌, ℕ, ◌-◌, ◌==◌, ◌&&◌, ◌||◌, Bool, List, [], ◌∷◌, inl, Option, Some, None, Result, Ok, Err, refl, sym, ap, subst, nat_lt, if◌then◌else◌}
-use Rattle.elf_abi.specs.Values.{dt_gnu_hash, dt_hash, sht_dynsym, sht_gnu_hash, sht_hash, sht_rel, sht_rela}
+use Rattle.std.proofs.Common.{◌≡◌, ℕ, ◌-◌, ◌==◌, ◌&&◌, ◌||◌, Bool, List, [], ◌∷◌, inl, Result, Ok, Err, refl, sym, ap, subst, nat_lt, if◌then◌else◌}
+use Rattle.elf_abi.specs.Values.{sht_dynsym, sht_rel, sht_rela}
 use Rattle.elf_records.specs.Number.{ok_map}
 use Rattle.elf_records.specs.Record.{◌>>=◌}
 use Rattle.elf_records.specs.Relocation.{fields_of_rel, fields_of_rela}
-use Rattle.elf_records.specs.declared.dynamic.Dyn.{Dyn}
 use Rattle.elf_records.specs.declared.parse.ParseError.{ParseError}
 use Rattle.elf_records.specs.declared.section.SectionHeader.{SectionHeader}
-use Rattle.elf_parts.specs.GnuFind.{GnuTable}
 use Rattle.elf.specs.Answers.{section_data_as_relas, section_data_as_rels}
-use Rattle.elf.specs.Data.{section_data}
-use Rattle.elf.specs.Headers.{first_section_of, if_found}
+use Rattle.elf.specs.Headers.{if_found}
 use Rattle.elf.specs.ObjectFile.{FileOf, ObjectFile, Partial, Whole, err_map}
 use Rattle.elf.specs.Parts.{ArePartOf, Follows, Ranges, loaded}
-use Rattle.elf.specs.Readers.{SectionData, SectionDataAsRelas, SectionDataAsRels}
-use Rattle.elf.specs.declared.read_error.ReadError.{ReadError}
+use Rattle.elf.specs.Readers.{SectionDataAsRelas, SectionDataAsRels}
 use Rattle.elf.specs.declared.read_error.ReadError.TheVariants.{Parse}
-use Rattle.elf_hash_check.specs.declared.hashcheck.any.HashKind.{HashKind}
-use Rattle.elf_hash_check.specs.declared.hashcheck.any.HashKind.TheVariants.{Gnu, Sysv}
 use Rattle.elf.proofs.Partly.{follows_if, follows_map, part_follows}
 use Rattle.elf_dynamic.specs.declared.dynamic_view.error.DynamicError.{DynamicError}
 use Rattle.elf_dynamic.specs.declared.dynamic_view.error.DynamicError.TheVariants.{Missing}
-use Rattle.elf_dynamic.specs.Linked.{Entries, Nothing, Place, Sections, linked_by}
-use Rattle.elf_dynamic.specs.dynamic_view.Entries.{required, value_of}
-use Rattle.elf_dynamic.specs.dynamic_view.Hashes.{gnu_hash}
+use Rattle.elf_dynamic.specs.Linked.{Entries, HashBytes, Nothing, Place, Sections, hash_section, linked_by}
 use Rattle.elf_dynamic.specs.dynamic_view.Relocations.{all_parts, relocations}
-use Rattle.elf_dynamic.specs.dynamic_view.Segments.{bytes_from}
 use Rattle.elf_dynamic.specs.dynamic_view.Versions.{versions}
-use Rattle.elf_dynamic.proofs.Following.{all_follow, found_follows, if_follows, map_follows, read_follows, said_follows, same_then, then_follows}
-use Rattle.elf_linking.specs.BySegments.{gnu_bytes, gnu_size, sysv_at, uses_by_all}
-use Rattle.elf_linking.specs.BySegments.{hash_by as table_hash, hash_section as segment_hash}
-use Rattle.elf_linking.specs.DynamicFile.{dynamic_symbols, dynamic_uses, dynamic_versions, hash_by, hash_in, hash_of, hash_parts, hash_section, section_hash, uses_found, with_symbols}
+use Rattle.elf_dynamic.proofs.Following.{all_follow, found_follows, if_follows, map_follows, read_follows, said_follows, then_follows}
+use Rattle.elf_linking.specs.DynamicFile.{dynamic_symbols, dynamic_uses, dynamic_versions, hash_parts, or_dynamic, uses_by_all, uses_found, with_symbols}
 use Rattle.elf_dynamic.specs.dynamic_view.Laws.{FollowsBy, FollowsWhole}
 use Rattle.elf_linking.specs.Following.{LinksFollow, object_missing, uses_missing}
-use Rattle.elf_linking.specs.ObjectTable.{HashBytes, object_fault, or_fault, or_no_symbols}
+use Rattle.elf_linking.specs.ObjectTable.{or_no_symbols}
 use Rattle.elf_linking.specs.SymbolUses.{has_type, is_dynamic, section_uses, sections_uses, uses_after, uses_fault}
 use Rattle.elf_linking.specs.declared.bindings.uses.SymbolUses.{SymbolUses}
 use Rattle.elf_linking.specs.declared.bindings.uses.UsesError.TheVariants.{Dynamic as Unknown, TooLarge}
 use Rattle.elf_linking.specs.declared.resolve.ObjectFault.TheVariants.{Dynamic}
-
--- ---- by the segments
 
 module _ (whole : ObjectFile) (range : Ranges) (is_missing : ℕ × ℕ → Bool) (each : ArePartOf whole is_missing range) where
   abbrev part : FileOf Partial
@@ -47,13 +34,6 @@ module _ (whole : ObjectFile) (range : Ranges) (is_missing : ℕ × ℕ → Bool
 
   view : FollowsWhole is_missing whole part
   view = all_follow whole range is_missing each
-
-  table_hash_follows : (es : List Dyn) (gnu : Option GnuTable) → FollowsBy Missing is_missing (table_hash whole es gnu) (table_hash part es gnu)
-  table_hash_follows es (Some t) = map_follows Missing is_missing _ (gnu_bytes whole es t) (gnu_bytes part es t) (same_then Missing is_missing (required dt_gnu_hash es) _ _ (λ a. view.bytes_of a (gnu_size whole.class t)))
-  table_hash_follows es None = found_follows Missing is_missing (sysv_at whole) (sysv_at part) (value_of dt_hash es) (λ a. map_follows Missing is_missing _ (bytes_from whole a) (bytes_from part a) (view.bytes_from a))
-
-  entry_hash_follows : (es : List Dyn) → FollowsBy Missing is_missing (segment_hash whole es) (segment_hash part es)
-  entry_hash_follows es = then_follows Missing is_missing (gnu_hash whole es) (gnu_hash part es) _ _ (view.gnu_hash es) (table_hash_follows es)
 
   -- ---- by sections or by entries
 
@@ -63,29 +43,12 @@ module _ (whole : ObjectFile) (range : Ranges) (is_missing : ℕ × ℕ → Bool
   placed_follows to f g each =
       then_follows (λ range. to (Missing range)) is_missing (err_map to (linked_by whole)) (err_map to (linked_by part)) f g (said_follows Missing is_missing to (linked_by whole) (linked_by part) view.linked) each
 
-  -- an answer of the reader
-  read : {A : Type 0} (x : Result A ParseError) (y : Result A ReadError) → Follows is_missing x y → FollowsBy object_missing is_missing (or_fault Whole x) (or_fault Partial y)
-  read x y follows = read_follows is_missing (object_fault Whole) (object_fault Partial) (λ e. refl) x y follows
-
   -- ---- the symbols
 
   symbols_follow : FollowsBy object_missing is_missing (dynamic_symbols whole) (dynamic_symbols part)
   symbols_follow = said_follows Missing is_missing Dynamic _ _ view.linked_symbols
 
   -- ---- the hash section
-
-  hash_in_follows : (kind : HashKind) (s : SectionHeader) → Follows is_missing (hash_in whole kind s) (hash_in part kind s)
-  hash_in_follows kind s = follows_map is_missing (λ found. Some (kind, found.0)) (section_data whole s) (section_data part s) (part_follows whole range is_missing each (SectionData s))
-
-  hash_of_follows : (gnu sysv : Option SectionHeader) → Follows is_missing (hash_of whole gnu sysv) (hash_of part gnu sysv)
-  hash_of_follows (Some s) sysv = hash_in_follows Gnu s
-  hash_of_follows None (Some s) = hash_in_follows Sysv s
-  hash_of_follows None None = inl refl
-
-  hash_by_follows : (p : Place) → FollowsBy object_missing is_missing (hash_by whole p) (hash_by part p)
-  hash_by_follows Sections = read (section_hash whole) (section_hash part) (hash_of_follows (first_section_of sht_gnu_hash whole.sections) (first_section_of sht_hash whole.sections))
-  hash_by_follows (Entries es) = said_follows Missing is_missing Dynamic (segment_hash whole es) (segment_hash part es) (entry_hash_follows es)
-  hash_by_follows Nothing = inl refl
 
   with_symbols_follow : (section : HashBytes) → FollowsBy object_missing is_missing (with_symbols whole section) (with_symbols part section)
   with_symbols_follow section =
@@ -94,8 +57,8 @@ module _ (whole : ObjectFile) (range : Ranges) (is_missing : ℕ × ℕ → Bool
 
   parts_of_hash_follow : FollowsBy object_missing is_missing (hash_parts whole) (hash_parts part)
   parts_of_hash_follow =
-      then_follows object_missing is_missing (hash_section whole) (hash_section part) (if_found (with_symbols whole)) (if_found (with_symbols part))
-      (placed_follows Dynamic (hash_by whole) (hash_by part) hash_by_follows) (λ o. found_follows object_missing is_missing (with_symbols whole) (with_symbols part) o with_symbols_follow)
+      then_follows object_missing is_missing (or_dynamic (hash_section whole)) (or_dynamic (hash_section part)) (if_found (with_symbols whole)) (if_found (with_symbols part))
+      (said_follows Missing is_missing Dynamic _ _ view.linked_hash) (λ o. found_follows object_missing is_missing (with_symbols whole) (with_symbols part) o with_symbols_follow)
 
   -- ---- the versions
 

@@ -8,8 +8,7 @@ use Rattle.elf.specs.ObjectFile.{Extent, FileOf, ObjectFile, Partial, err_map}
 use Rattle.elf_abi.specs.Values.{sht_rel, sht_rela}
 use Rattle.elf_dynamic.specs.Linked.{Entries, Nothing, Place, Sections, linked_by}
 use Rattle.elf_dynamic.specs.dynamic_view.Relocations.{relocations}
-use Rattle.elf_linking.specs.BySegments.{uses_by_all}
-use Rattle.elf_linking.specs.DynamicFile.{dynamic_uses, or_unknown, uses_found}
+use Rattle.elf_linking.specs.DynamicFile.{dynamic_uses, or_unknown, uses_by_all, uses_found}
 use Rattle.elf_dynamic.specs.dynamic_view.Laws.{FollowsBy}
 use Rattle.elf_linking.specs.Following.{HasLinks, IsThere, LinksFollow, SameLinks, object_missing, uses_missing}
 use Rattle.elf_linking.specs.SymbolUses.{is_dynamic, section_uses, sections_uses, uses_fault}

@@ -2,29 +2,22 @@
 -- relocations make of the symbols. A file that declares section headers is read by these; one that declares none is read
 -- by its dynamic entries, as the dynamic linker reads each file.
 use Rattle.std.specs.Prelude.{ℕ, Bool, List, Option, Some, None, Result, Ok, Err}
-use Rattle.elf_abi.specs.Values.{sht_gnu_hash, sht_hash}
 use Rattle.elf_records.specs.Number.{ok_map}
 use Rattle.elf_records.specs.Record.{◌>>=◌}
 use Rattle.elf_records.specs.Table.{Table}
 use Rattle.elf_records.specs.declared.file.Class.{Class}
-use Rattle.elf_records.specs.declared.section.SectionHeader.{SectionHeader}
 use Rattle.elf_parts.specs.gnu_symver.Table.{Versions}
-use Rattle.elf.specs.Data.{section_data}
-use Rattle.elf.specs.Headers.{first_section_of, if_found}
-use Rattle.elf.specs.ObjectFile.{ErrorOf, Extent, FileOf, Whole, err_map}
+use Rattle.elf.specs.Headers.{if_found}
+use Rattle.elf.specs.ObjectFile.{Extent, FileOf, Whole, err_map}
 use Rattle.elf_dynamic.specs.Linked as linked
-use Rattle.elf_dynamic.specs.Linked.{Entries, Nothing, Place, Sections, linked_by}
+use Rattle.elf_dynamic.specs.Linked.{Entries, HashBytes, Nothing, Place, Sections, linked_by}
 use Rattle.elf_dynamic.specs.declared.dynamic_view.error.DynamicError.{DynamicError}
-use Rattle.elf_dynamic.specs.dynamic_view.Relocations.{relocations}
+use Rattle.elf_dynamic.specs.dynamic_view.Relocations.{RelocationLists, relocations}
 use Rattle.elf_hash_check.specs.Object.{Object, object_in}
-use Rattle.elf_hash_check.specs.declared.hashcheck.any.HashKind.{HashKind}
-use Rattle.elf_hash_check.specs.declared.hashcheck.any.HashKind.TheVariants.{Gnu, Sysv}
 use Rattle.elf_linking.specs.Binding.{VersionedObject}
 use Rattle.elf_linking.specs.BindingObjects.{GivesObject}
-use Rattle.elf_linking.specs.BySegments.{uses_by_all}
-use Rattle.elf_linking.specs.BySegments.{hash_section as segment_hash}
-use Rattle.elf_linking.specs.ObjectTable.{HashBytes, HashParts, or_fault, or_no_symbols}
-use Rattle.elf_linking.specs.SymbolUses.{uses_by}
+use Rattle.elf_linking.specs.ObjectTable.{HashParts, or_fault, or_no_symbols}
+use Rattle.elf_linking.specs.SymbolUses.{uses_after, uses_by}
 use Rattle.elf_linking.specs.declared.bindings.uses.SymbolUses.{SymbolUses}
 use Rattle.elf_linking.specs.declared.bindings.uses.UsesError.{UsesError}
 use Rattle.elf_linking.specs.declared.bindings.uses.UsesError.TheVariants.{Dynamic as Unknown}
@@ -40,28 +33,7 @@ or_dynamic r = err_map Dynamic r
 abbrev pub dynamic_symbols : {x : Extent} → FileOf x → Result (Option (Table × List ℕ)) ObjectFault
 dynamic_symbols file = or_dynamic (linked.dynamic_symbols file)
 
--- ---- the hash section, if there is one: a GNU section, or if there is none a SysV section
-
-abbrev pub hash_in : {x : Extent} → FileOf x → HashKind → SectionHeader → Result (Option HashBytes) (ErrorOf x)
-hash_in file kind s = ok_map (λ found. Some (kind, found.0)) (section_data file s)
-
-abbrev pub hash_of : {x : Extent} → FileOf x → Option SectionHeader → Option SectionHeader →
-    Result (Option HashBytes) (ErrorOf x)
-hash_of file (Some gnu) sysv = hash_in file Gnu gnu
-hash_of file None (Some sysv) = hash_in file Sysv sysv
-hash_of file None None = Ok None
-
-abbrev pub section_hash : {x : Extent} → FileOf x → Result (Option HashBytes) (ErrorOf x)
-section_hash file =
-    hash_of file (first_section_of sht_gnu_hash file.sections) (first_section_of sht_hash file.sections)
-
-abbrev pub hash_by : {x : Extent} → FileOf x → Place → Result (Option HashBytes) ObjectFault
-hash_by {x} file Sections = or_fault x (section_hash file)
-hash_by file (Entries entries) = or_dynamic (segment_hash file entries)
-hash_by file Nothing = Ok None
-
-abbrev pub hash_section : {x : Extent} → FileOf x → Result (Option HashBytes) ObjectFault
-hash_section file = or_dynamic (linked_by file) >>= hash_by file
+-- ---- the hash section, if there is one
 
 -- with what it is checked over: the symbols, and the strings that their names lie in
 abbrev pub with_symbols : {x : Extent} → FileOf x → HashBytes → Result HashParts ObjectFault
@@ -69,7 +41,7 @@ with_symbols file section =
     dynamic_symbols file >>= or_no_symbols >>= λ symbols. Ok (section.0, (section.1, symbols))
 
 abbrev pub hash_parts : {x : Extent} → FileOf x → Result (Option HashParts) ObjectFault
-hash_parts file = hash_section file >>= if_found (with_symbols file)
+hash_parts file = or_dynamic (linked.hash_section file) >>= if_found (with_symbols file)
 
 -- ---- the versions of the symbols, if there are any
 
@@ -90,6 +62,10 @@ GivesDynamic view file result =
     GivesObject view (table_of_parts file.little file.class (hash_parts file)) (dynamic_versions file) (λ fault. fault) result
 
 -- ---- the uses of the symbols by relocations of this machine
+
+-- by all that dynamic entries give
+abbrev pub uses_by_all : ℕ → List SymbolUses → RelocationLists → List SymbolUses
+uses_by_all machine uses r = uses_after machine (uses_after machine (uses_after machine uses r.rels) r.relas) r.plt
 
 abbrev pub or_unknown : {A : Type 0} → Result A DynamicError → Result A UsesError
 or_unknown r = err_map Unknown r

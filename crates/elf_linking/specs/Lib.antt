@@ -12,8 +12,7 @@ pub mod BindingObjects
 pub mod Resolver
 pub mod Bindings
 pub mod SymbolUses
--- what is looked up and bound of a file, by its sections or through its segments
-pub mod BySegments
+-- what is looked up and bound of a file, by its sections or by its dynamic entries
 pub mod DynamicFile
 -- what look-ups use of a part of a file beside the whole
 pub mod Following

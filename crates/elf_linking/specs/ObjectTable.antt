@@ -46,13 +46,13 @@ section_parts {x} file s =
 abbrev pub parts_view : {E : Type 0} → Bor (List ℕ) × (ParsingTable E Symbol × StringTable) → List ℕ × (Table × List ℕ)
 parts_view parts = (parts.0.now, symbols_view parts.1)
 
--- a hash section by its kind, and its bytes
-abbrev pub HashBytes : Type 0
-HashBytes = HashKind × List ℕ
-
--- the same with what it is checked over
+-- a hash section by its kind, with what it is checked over
 abbrev pub HashParts : Type 0
 HashParts = HashKind × (List ℕ × (Table × List ℕ))
+
+abbrev pub hash_view : {E : Type 0} →
+    HashKind × (Bor (List ℕ) × (ParsingTable E Symbol × StringTable)) → HashParts
+hash_view parts = (parts.0, parts_view parts.1)
 
 -- the object that a section of a kind holds, with these symbols; the fault of the first step that fails
 abbrev pub section_object : {x : Extent} → HashKind → FileOf x → SectionHeader → Result Object ObjectFault

@@ -1,3 +1,2 @@
-pub mod BySegments
 -- what is missing of a file
 pub mod Missed

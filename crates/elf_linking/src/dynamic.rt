@@ -5,26 +5,28 @@ ghost use Rattle.std.specs.Prelude.{◌≡◌};
 ghost use Rattle.std.specs.Option.{option_map};
 ghost use Rattle.elf.specs.Answers.{symbols_view};
 ghost use Rattle.elf.specs.Parts.{loaded};
+ghost use Rattle.elf_dynamic.specs.dynamic_view.Entries.{entries_in};
+ghost use Rattle.elf_dynamic.specs.dynamic_view.Relocations.{relocations};
 ghost use Rattle.elf_linking.specs.DynamicFile.{GivesDynamic, dynamic_symbols, dynamic_uses, dynamic_versions};
-ghost use Rattle.elf_linking.specs.DynamicFile.{hash_parts, hash_section, section_hash};
+ghost use Rattle.elf_linking.specs.DynamicFile.{hash_parts, uses_by_all};
+ghost use Rattle.elf_linking.specs.ObjectTable.{hash_view};
 ghost use Rattle.elf_linking.specs.VersionedView.{versioned_view};
-ghost use Rattle.elf_linking.specs.inner.BySegments.{hash_view, section_view};
 ghost use Rattle.elf_parts.specs.gnu_symver.Table.{versions_view};
 ghost use Rattle.elf_records.specs.Number.{ok_map};
+ghost use Rattle.elf_records.specs.Table.{table_view};
 
-use crate::bindings::uses::{SymbolUses, UsesError, add_uses};
-use crate::by_segments::add_relocations;
-use crate::resolve::{HashBytes, HashParts, ObjectFault, checked_in};
-use crate::{VersionedObject, by_segments};
+use crate::VersionedObject;
+use crate::bindings::uses::{SymbolUses, UsesError, add_each, add_uses};
+use crate::resolve::{HashParts, ObjectFault, checked_in};
+use elf::dynamic::DynamicTable;
 use elf::endian::EndianParse;
 use elf::gnu_symver::SymbolVersionTable;
-use elf::reader::{Reader, section_data};
+use elf::reader::Reader;
 use elf::string_table::StringTable;
 use elf::symbol::SymbolTable;
-use elf::{ReadError, abi};
+use elf_dynamic::dynamic_view::{DynamicError, PltRelocations, plt_relocations, relas, rels};
 use elf_dynamic::linked;
 use elf_dynamic::linked::{LinkedBy, linked_by};
-use elf_hash_check::hashcheck::HashKind;
 
 /// Returns the dynamic symbols of `linked::dynamic_symbols`. The error is `Dynamic` with that of this function.
 pub fn dynamic_symbols<'f, E: EndianParse, R: Reader<E>>(
@@ -36,49 +38,13 @@ pub fn dynamic_symbols<'f, E: EndianParse, R: Reader<E>>(
     Ok(symbols)
 }
 
-// The first section of type SHT_GNU_HASH, or if there is none the first of type SHT_HASH.
-fn section_hash<'f, E: EndianParse, R: Reader<E>>(
-    file: &'f R,
-) -> Result<Option<HashBytes<'f>>, ReadError>
-    ensures { ok_map (option_map section_view) result ≡ section_hash (loaded (R.file file.now) (R.ranges file.now)) }
-{
-    if let Some(section) = file.first_section_of(abi::SHT_GNU_HASH) {
-        let (bytes, _) = section_data(file, &section)?;
-        return Ok(Some((HashKind::Gnu, bytes)));
-    }
-    if let Some(section) = file.first_section_of(abi::SHT_HASH) {
-        let (bytes, _) = section_data(file, &section)?;
-        return Ok(Some((HashKind::Sysv, bytes)));
-    }
-    Ok(None)
-}
-
-// The hash section of a file, if it has one.
-fn hash_section<'f, E: EndianParse, R: Reader<E>>(
-    file: &'f R,
-) -> Result<Option<HashBytes<'f>>, ObjectFault>
-    ensures { ok_map (option_map section_view) result ≡ hash_section (loaded (R.file file.now) (R.ranges file.now)) }
-{
-    match linked_by(file)? {
-        LinkedBy::Sections => {
-            let section = section_hash(file)?;
-            Ok(section)
-        }
-        LinkedBy::Entries(entries) => {
-            let section = by_segments::hash_section(file, &entries)?;
-            Ok(section)
-        }
-        LinkedBy::Nothing => Ok(None),
-    }
-}
-
-// The same with what it is checked over.
+// The hash section of a file, if it has one, with what it is checked over.
 pub(crate) fn hash_parts<'f, E: EndianParse, R: Reader<E>>(
     file: &'f R,
 ) -> Result<Option<HashParts<'f, E>>, ObjectFault>
     ensures { ok_map (option_map hash_view) result ≡ hash_parts (loaded (R.file file.now) (R.ranges file.now)) }
 {
-    let Some((kind, bytes)) = hash_section(file)? else {
+    let Some((kind, bytes)) = linked::hash_section(file)? else {
         return Ok(None);
     };
     match dynamic_symbols(file)? {
@@ -100,10 +66,10 @@ pub(crate) fn versions<'f, E: EndianParse, R: Reader<E>>(
 /// Returns the object that a file is in a look-up with versions, or `None` exactly if it has no hash section. The
 /// symbols are those of `dynamic_symbols`.
 ///
-/// Errors: those of `versioned_object`; of a file that declares no section headers, in order: `Dynamic` if its dynamic
-/// entries, its hash section or its symbols are not available; `Read` if `new` of the table returns an error; `Faulty`
-/// with the first fault of the section; `Dynamic` if the versions are not available. Of a file that is loaded in part
-/// also `Dynamic` with `DynamicError::Missing`.
+/// Errors, in order: `Dynamic` if the hash section is not available (`linked::hash_section`), or the dynamic symbols;
+/// `NoSymbols` if there are none; `Read` if `new` of the table returns an error; `Faulty` with the first fault of the
+/// section; `Dynamic` if the versions are not available. Of a file that is loaded in part also `Dynamic` with
+/// `DynamicError::Missing`.
 pub fn dynamic_object<'f, E: EndianParse, R: Reader<E>>(
     file: &'f R,
 ) -> Result<Option<VersionedObject<'f, E>>, ObjectFault>
@@ -122,6 +88,30 @@ pub fn dynamic_object<'f, E: EndianParse, R: Reader<E>>(
     )?;
     let versions = versions(file)?;
     Ok(Some(VersionedObject { table, versions }))
+}
+
+// Adds the uses that all relocations make that dynamic entries give.
+fn add_relocations<E: EndianParse, R: Reader<E>>(
+    machine: u16,
+    file: &R,
+    entries: &DynamicTable<'_, E>,
+    uses: &mut [SymbolUses],
+) -> Result<(), DynamicError>
+    ensures { ok_map (λ _. uses.new) result ≡ ok_map (uses_by_all machine uses.old)
+        (relocations (loaded (R.file file.now) (R.ranges file.now)) (entries_in (table_view entries.now))) }
+{
+    if let Some(rels) = rels(file, entries)? {
+        add_each(machine, rels, uses);
+    }
+    if let Some(relas) = relas(file, entries)? {
+        add_each(machine, relas, uses);
+    }
+    match plt_relocations(file, entries)? {
+        Some(PltRelocations::Rel(rels)) => add_each(machine, rels, uses),
+        Some(PltRelocations::Rela(relas)) => add_each(machine, relas, uses),
+        None => {}
+    }
+    Ok(())
 }
 
 /// Adds the uses that the relocations of a file make of its dynamic symbols, in the order of their table. If

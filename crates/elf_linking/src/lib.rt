@@ -15,7 +15,6 @@
 #![tactic(auto)]
 
 pub mod bindings;
-mod by_segments;
 mod choice;
 mod definitions;
 pub mod dynamic;

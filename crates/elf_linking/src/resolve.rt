@@ -5,18 +5,15 @@
 //! An object is given by its checked hash table, so a look-up returns no error and misses no indexed symbol.
 //! Nothing is allocated.
 ghost use Rattle.std.specs.Prelude.{◌≡◌};
-ghost use Rattle.elf.specs.ObjectFile.{Partial};
-ghost use Rattle.elf_linking.specs.ObjectTable.{object_fault};
 ghost use Rattle.elf_linking.specs.declared.resolve.ObjectFault.TheVariants.{Dynamic as IsDynamic, Read as IsRead};
 
 mod objects;
 
-use elf::ReadError;
 use elf::parse::ParseError;
 use elf_dynamic::dynamic_view::DynamicError;
 use elf_hash_check::hashcheck::HashFault;
 pub use elf_hash_check::hashcheck::{AnyChecked, HashSection};
-pub(crate) use objects::{HashBytes, HashParts, checked_in};
+pub(crate) use objects::{HashParts, checked_in};
 pub use objects::{object_table, resolve, section_table};
 use std::fmt;
 use thiserror::Error;
@@ -30,8 +27,8 @@ pub enum ObjectFault {
     NoSymbols,
     /// The section is not sound for the dynamic symbols.
     Faulty(HashFault),
-    /// What the dynamic linker uses of the file is not available: of a file that declares no section headers through
-    /// its segments, or since a range is not loaded (`DynamicError::Missing`).
+    /// What links the file is not available: its dynamic symbols, their versions or its hash section, where they are
+    /// read as `elf_dynamic::linked` does. So it is too if a range is not loaded (`DynamicError::Missing`).
     Dynamic(DynamicError),
 }
 
@@ -55,17 +52,6 @@ impl From<DynamicError> for ObjectFault {
 
     fn from(error: DynamicError) -> ObjectFault {
         ObjectFault::Dynamic(error)
-    }
-}
-
-impl From<ReadError> for ObjectFault {
-    ghost from_gives = { λ error fault. fault ≡ object_fault Partial error };
-
-    fn from(error: ReadError) -> ObjectFault {
-        match error {
-            ReadError::Parse(error) => ObjectFault::Read(error),
-            ReadError::NotLoaded(range) => ObjectFault::Dynamic(DynamicError::Missing(range)),
-        }
     }
 }
 

@@ -33,6 +33,11 @@ use crate::table::{Names, name_in};
 use elf_abi::abi;
 
 /// Returns the name of a type of relocations (`R_X86_64_JUMP_SLOT` of `r_type` 7) in files of this `e_machine`.
+///
+/// ```rust
+/// let name = relocation_type_name(EM_X86_64, 7).unwrap_or("not known");
+/// println!(rt; "{name}")?; // R_X86_64_JUMP_SLOT
+/// ```
 pub fn relocation_type_name(e_machine: u16, r_type: u32) -> Option<&'static str>
     ensures { option_copied result ≡ relocation_type_name e_machine r_type }
 {

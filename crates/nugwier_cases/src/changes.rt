@@ -43,7 +43,8 @@ fn byte_of(pair: &[u8]) -> Option<u8> {
     }
 }
 
-fn digit_value(digit: u8) -> Option<u8> {
+/// The value of a hexadecimal digit.
+pub(crate) fn digit_value(digit: u8) -> Option<u8> {
     match digit {
         b'0'..=b'9' => Some(digit - b'0'),
         b'a'..=b'f' => Some(digit - b'a' + 10),

@@ -3,7 +3,7 @@
 //! `NAME,62=0063` names the file NAME with other bytes from offset 62 on (`changes`), and is read whole. The words
 //! `NAME,fails=N` and `NAME,slips=N` name the file NAME in a source whose first N reads succeed, and then one fails:
 //! after `fails` the file cannot be read whole either, after `slips` it can (`source`). The rows of the file `calls`
-//! follow (`calls`).
+//! follow (`calls`), and those of the file `tables` (`tables`).
 #![tactic(auto)]
 
 ghost use Rattle.std.specs.Prelude.{None};
@@ -11,6 +11,7 @@ ghost use Rattle.std.specs.Prelude.{None};
 mod calls;
 mod changes;
 mod source;
+mod tables;
 
 use changes::change;
 use elf_libraries::files::Files;
@@ -106,7 +107,8 @@ fn main(rt: HostRuntime) -> io::Result<()> {
     for case in cases.lines() {
         show_case(&rt, case, &mut out)?;
     }
-    calls::show_calls(&rt, &mut out)
+    calls::show_calls(&rt, &mut out)?;
+    tables::show_tables(&rt, &mut out)
 }
 
 fn show_case<W: Write>(rt: &HostRuntime, case: &str, out: &mut W) -> io::Result<()> {

@@ -9,13 +9,14 @@ use Rattle.nugwier_commands.specs.Run.{IsFoundSaid, IsProgramSaid, IsSaidAt, Kno
 use Rattle.nugwier_commands.specs.inner.Loading.{IsNamed, IsNamedProgramSaid}
 use Rattle.elf_libraries.specs.Folder.{KnownFiles}
 use Rattle.nugwier_programs.specs.Bindings.{IsBindingsSaid, IsBoundSaid}
+use Rattle.nugwier_programs.specs.Starts.{IsBoundStartSaid, IsStartSaid}
 use Rattle.nugwier_programs.specs.Tree.{IsNamedSaid, IsTreeSaid}
 use Rattle.nugwier_report.specs.Labels.{Named}
 use Rattle.nugwier_report.specs.Said.{Said}
 use Rattle.nugwier_commands.specs.Words.{Task}
 use Rattle.nugwier_commands.specs.declared.words.Command.{Command}
 use Rattle.nugwier_commands.specs.declared.words.Command.TheVariants.{Address, Bindings, BuildId, Check, Exports, Harden, List, Needed}
-use Rattle.nugwier_commands.specs.declared.words.Command.TheVariants.{Plan, Symbols, Tree}
+use Rattle.nugwier_commands.specs.declared.words.Command.TheVariants.{Plan, Starts, Symbols, Tree}
 
 -- the file at the path has these bytes
 module _ (files : KnownFiles) (task : Task) (path bytes : ListOf ℕ) (program : Found) (named : Named) (said : ListOf Said)
@@ -34,7 +35,15 @@ module _ (files : KnownFiles) (task : Task) (path bytes : ListOf ℕ) (program :
       (program, inr (sym without, there), bound)
   bound_by (Err e) same bound = absurd (cc same)
 
-  by_command : (command : Command) → IsNamedProgramSaid (Some files) command (search_of task) program named said
+  start_by : (r : Result (FileView AnyEndian) ParseError) → ok_map without_bytes (ok_map (found_in path bytes) r) ≡ Ok program
+      → IsBoundStartSaid (Some files) (search_of task) path program said
+      → IsStartSaid (Some files) (search_of task) path (ok_map (found_in path bytes) r) said
+  start_by (Ok v) same start =
+      let without : without_bytes (found_in path bytes v) ≡ program = cc same in
+      (program, inr (sym without, there), start)
+  start_by (Err e) same start = absurd (cc same)
+
+  by_command : (command : Command) → IsNamedProgramSaid (Some files) command (search_of task) path program named said
       → IsProgramSaid (Some files) command task path bytes named said
   by_command List h = (h.0, tree_by (file_of path bytes) is h.1)
   by_command Symbols h = (h.0, tree_by (file_of path bytes) is h.1)
@@ -47,9 +56,10 @@ module _ (files : KnownFiles) (task : Task) (path bytes : ListOf ℕ) (program :
   by_command Address h = (h.0, tree_by (file_of path bytes) is h.1)
   by_command Tree h = (h.0, tree_by (file_of path bytes) is h.1)
   by_command Bindings h = (h.0, bound_by (linked_file bytes) is h.1)
+  by_command Starts h = (h.0, start_by (linked_file bytes) is h.1)
 
 pub named_said : (known : Known) (task : Task) (path : ListOf ℕ) (program : Found) (named : Named) (said : ListOf Said)
-    → IfSome known (λ files. IsNamed path (files.contents path) program) → IsNamedProgramSaid known task.command (search_of task) program named said
+    → IfSome known (λ files. IsNamed path (files.contents path) program) → IsNamedProgramSaid known task.command (search_of task) path program named said
     → IsSaidAt known (IsProgramSaid known task.command task path) path named said
 named_said None task path program named said is h = tt
 named_said (Some files) task path program named said is h =

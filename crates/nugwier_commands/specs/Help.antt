@@ -1,10 +1,11 @@
 -- What `--help` prints, of the program and of each command.
 use Rattle.std.specs.Prelude.{ℕ, List, Option, Some, None}
 use Rattle.nugwier_commands.specs.declared.help.TheConstants.{ADDRESS, BINDINGS, BUILD_ID, CHECK, EXPORTS, HARDEN, LIST}
-use Rattle.nugwier_commands.specs.declared.help.TheConstants.{NEEDED, PLAN, PROGRAM, SYMBOLS, TREE}
+use Rattle.nugwier_commands.specs.declared.help.TheConstants.{NEEDED, PLAN, PROGRAM, STARTS, SYMBOLS, TREE}
 use Rattle.nugwier_commands.specs.declared.words.Command.{Command}
 use Rattle.nugwier_commands.specs.declared.words.Command.TheVariants.{Address, Bindings, BuildId, Check, Exports, Harden}
-use Rattle.nugwier_commands.specs.declared.words.Command.TheVariants.{List as ListCommand, Needed, Plan, Symbols, Tree}
+use Rattle.nugwier_commands.specs.declared.words.Command.TheVariants.{List as ListCommand, Needed, Plan, Starts, Symbols}
+use Rattle.nugwier_commands.specs.declared.words.Command.TheVariants.{Tree}
 
 abbrev pub help_of_command : Command → List ℕ
 help_of_command ListCommand = LIST.now
@@ -18,6 +19,7 @@ help_of_command Harden = HARDEN.now
 help_of_command Address = ADDRESS.now
 help_of_command Tree = TREE.now
 help_of_command Bindings = BINDINGS.now
+help_of_command Starts = STARTS.now
 
 abbrev pub help_of : Option Command → List ℕ
 help_of None = PROGRAM.now

@@ -27,7 +27,8 @@ use Rattle.nugwier_report.specs.Said.{Said}
 use Rattle.nugwier_commands.specs.Words.{Task}
 use Rattle.nugwier_commands.specs.declared.words.Command.{Command}
 use Rattle.nugwier_commands.specs.declared.words.Command.TheVariants.{Address, Bindings, BuildId, Check, Exports, Harden}
-use Rattle.nugwier_commands.specs.declared.words.Command.TheVariants.{List as ListCommand, Needed, Plan, Symbols, Tree}
+use Rattle.nugwier_commands.specs.declared.words.Command.TheVariants.{List as ListCommand, Needed, Plan, Starts, Symbols}
+use Rattle.nugwier_commands.specs.declared.words.Command.TheVariants.{Tree}
 use Rattle.nugwier_commands.specs.declared.words.Parts.{Parts}
 
 -- whether a part is asked for
@@ -75,7 +76,7 @@ module _ {E : Type 0} (little : E → Bool) where
       ++ said_of_contents file task.contents
 
   module _ (of_byte : ℕ → Option E) where
-    -- by the command, of a file of this path; `tree` and `bindings` say nothing of one file
+    -- by the command, of a file of this path; `tree`, `bindings` and `starts` say nothing of one file
     abbrev pub IsSaidBy : Command → Task → List ℕ → FileHeader E → ObjectFile → List Said → Type 0
     IsSaidBy ListCommand task path header file said = said ≡ said_of_list task header file
     IsSaidBy Symbols task path header file said = AreSymbolsSaid task.symbols file said
@@ -90,6 +91,7 @@ module _ {E : Type 0} (little : E → Bool) where
         AreAddressesSaid header.e_type header.e_machine task.addresses file said
     IsSaidBy Tree task path header file said = said ≡ []
     IsSaidBy Bindings task path header file said = said ≡ []
+    IsSaidBy Starts task path header file said = said ≡ []
 
     unfoldable pub IsSaidOf : Task → List ℕ → FileHeader E → ObjectFile → List Said → Type 0
     IsSaidOf task path header file said = IsSaidBy task.command task path header file said

@@ -4,7 +4,8 @@ use Rattle.elf.specs.ObjectFile.{ObjectFile}
 use Rattle.nugwier_report.specs.Headings.{known_names}
 use Rattle.nugwier_commands.specs.Words.{Task}
 use Rattle.nugwier_commands.specs.declared.words.Command.{Command}
-use Rattle.nugwier_commands.specs.declared.words.Command.TheVariants.{Bindings, BuildId, List as ListCommand, Plan, Tree}
+use Rattle.nugwier_commands.specs.declared.words.Command.TheVariants.{Bindings, BuildId, List as ListCommand, Plan, Starts}
+use Rattle.nugwier_commands.specs.declared.words.Command.TheVariants.{Tree}
 use Rattle.nugwier_commands.specs.declared.words.Parts.{Parts}
 
 -- whether a part is asked for that is more than a header
@@ -19,6 +20,7 @@ tells_sections Plan task = false
 tells_sections BuildId task = false
 tells_sections Tree task = false
 tells_sections Bindings task = false
+tells_sections Starts task = false
 tells_sections ListCommand task = has_sections task.parts || not (length task.contents == 0)
 tells_sections other task = true
 

@@ -20,6 +20,7 @@ use Rattle.elf.specs.StreamFile.{listed_file}
 use Rattle.elf_libraries.specs.Tree.{file_of}
 use Rattle.nugwier_commands.specs.Job.{IsSaidOf}
 use Rattle.nugwier_programs.specs.Bindings.{IsBindingsSaid}
+use Rattle.nugwier_programs.specs.Starts.{IsStartSaid}
 use Rattle.elf_libraries.specs.Below.{known_below}
 use Rattle.elf_libraries.specs.Folder.{KnownFiles, Place}
 use Rattle.nugwier_programs.specs.Tree.{IsTreeSaid, Search}
@@ -42,7 +43,7 @@ use Rattle.nugwier_commands.specs.WordTexts.{word_text}
 use Rattle.nugwier_commands.specs.Words.{Answer, Task, help, run, version}
 use Rattle.nugwier_commands.specs.declared.help.TheConstants.{VERSION}
 use Rattle.nugwier_commands.specs.declared.words.Command.{Command}
-use Rattle.nugwier_commands.specs.declared.words.Command.TheVariants.{Bindings, Check, Harden, Tree}
+use Rattle.nugwier_commands.specs.declared.words.Command.TheVariants.{Bindings, Check, Harden, Starts, Tree}
 use Rattle.nugwier_commands.specs.declared.words.WordError.{WordError}
 use Rattle.nugwier_commands.specs.declared.target.Heading.{Heading}
 use Rattle.nugwier_commands.specs.declared.target.Heading.TheVariants.{First, Next}
@@ -110,10 +111,11 @@ IsBytesSaid task path bytes named said =
 
 -- ---- the files of the words
 
--- of several files each has its path above it, except for `check` and `harden`, whose lines name it
+-- of several files each has its path above it, except for `check`, `harden` and `starts`, whose lines name it
 abbrev pub has_headings : Command → List (Bor (List ℕ)) → Bool
 has_headings Check files = false
 has_headings Harden files = false
+has_headings Starts files = false
 has_headings other files = nat_lt 1 (length files)
 
 abbrev pub heading_at : Bool → ℕ → Option Heading
@@ -135,6 +137,8 @@ search_of task = record { folders = task.searches; has_cache = task.has_cache }
 abbrev pub IsProgramSaid : Known → Command → Task → List ℕ → List ℕ → Named → List Said → Type 0
 IsProgramSaid known Bindings task path bytes named said =
     (named ≡ no_sections) × IsBindingsSaid known (search_of task) (file_of path bytes) said
+IsProgramSaid known Starts task path bytes named said =
+    (named ≡ no_sections) × IsStartSaid known (search_of task) path (file_of path bytes) said
 IsProgramSaid known other task path bytes named said =
     (named ≡ no_sections) × IsTreeSaid known (search_of task) (file_of path bytes) said
 
@@ -142,6 +146,7 @@ IsProgramSaid known other task path bytes named said =
 abbrev pub IsContentSaid : Known → Command → Task → List ℕ → List ℕ → Named → List Said → Type 0
 IsContentSaid known Tree task path bytes named said = IsProgramSaid known Tree task path bytes named said
 IsContentSaid known Bindings task path bytes named said = IsProgramSaid known Bindings task path bytes named said
+IsContentSaid known Starts task path bytes named said = IsProgramSaid known Starts task path bytes named said
 IsContentSaid known other task path bytes named said = IsBytesSaid task path bytes named said
 
 -- what is said of a file by its bytes
@@ -233,10 +238,11 @@ IsItemSaid known task heading path (Err e) own =
     (named : Named) × (said : List Said) × IsProblemSaid (broken e) named said
     × (own ≡ listing_of heading path named said)
 
--- each member has its path above it, except for `check` and `harden`
+-- each member has its path above it, except for `check`, `harden` and `starts`
 abbrev pub first_heading : Command → Option Heading → Option Heading
 first_heading Check heading = None
 first_heading Harden heading = None
+first_heading Starts heading = None
 first_heading other (Some above) = Some above
 first_heading other None = Some First
 
@@ -263,6 +269,7 @@ AreMembersSaid known task heading path bytes all =
 abbrev pub is_archive : Command → List ℕ → Bool
 is_archive Tree start = false
 is_archive Bindings start = false
+is_archive Starts start = false
 is_archive other start = is_some (thinness start)
 
 -- ---- a file of the words
@@ -304,7 +311,7 @@ abbrev pub IsFoundTold : Known → Task → Option Heading → Found → List Li
 IsFoundTold known task heading (file_at path) all = ArePathSaid known task heading path all
 IsFoundTold known task heading (unread path) all = AreFoundSaid known task heading path None all
 
--- in order; each has its path above it, except for `check` and `harden`
+-- in order; each has its path above it, except for `check`, `harden` and `starts`
 abbrev pub AreAllTold : Known → Task → Option Heading → List Found → List Listing → Type 0
 AreAllTold known task heading [] all = all ≡ []
 AreAllTold known task heading (found ∷ others) all =

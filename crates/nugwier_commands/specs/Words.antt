@@ -30,7 +30,8 @@ use Rattle.nugwier_symbols.specs.Addresses.{Sought, sought, text_of}
 use Rattle.nugwier_symbols.specs.declared.addresses.AskedAddress.{AskedAddress}
 use Rattle.nugwier_commands.specs.declared.words.Command.{Command}
 use Rattle.nugwier_commands.specs.declared.words.Command.TheVariants.{Address, Bindings, BuildId, Check, Exports, Harden}
-use Rattle.nugwier_commands.specs.declared.words.Command.TheVariants.{List as ListCommand, Needed, Plan, Symbols, Tree}
+use Rattle.nugwier_commands.specs.declared.words.Command.TheVariants.{List as ListCommand, Needed, Plan, Starts, Symbols}
+use Rattle.nugwier_commands.specs.declared.words.Command.TheVariants.{Tree}
 use Rattle.nugwier_sections.specs.Contents.{wanted_view}
 use Rattle.nugwier_sections.specs.declared.contents.Form.{Form}
 use Rattle.nugwier_sections.specs.declared.contents.Form.TheVariants.{Bytes, Strings}
@@ -113,10 +114,12 @@ word_of Harden = codes "harden"
 word_of Address = codes "address"
 word_of Tree = codes "tree"
 word_of Bindings = codes "bindings"
+word_of Starts = codes "starts"
 
 abbrev pub commands : List Command
 commands =
-    ListCommand ∷ Symbols ∷ Needed ∷ Exports ∷ BuildId ∷ Plan ∷ Check ∷ Harden ∷ Address ∷ Tree ∷ Bindings ∷ []
+    ListCommand ∷ Symbols ∷ Needed ∷ Exports ∷ BuildId ∷ Plan ∷ Check ∷ Harden ∷ Address ∷ Tree ∷ Bindings ∷ Starts
+    ∷ []
 
 unfoldable pub command_of : List ℕ → Option Command
 command_of word = find (λ command. bytes_eq (word_of command) word) commands
@@ -488,6 +491,7 @@ with_options Symbols asked word = with_symbols_word asked word
 with_options Exports asked word = with_listed Exports asked word
 with_options Tree asked word = with_search Tree asked word
 with_options Bindings asked word = with_search Bindings asked word
+with_options Starts asked word = with_search Starts asked word
 with_options Harden asked word = with_require asked word
 with_options other asked word = wrong (NotOption other word)
 

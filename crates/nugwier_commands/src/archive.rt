@@ -29,7 +29,7 @@ pub(crate) fn is_archive(job: &Job<'_>, front: &[u8]) -> bool
     ensures { result ≡ is_archive job.now.command front.now }
 {
     match job.command {
-        Command::Tree | Command::Bindings => false,
+        Command::Tree | Command::Bindings | Command::Starts => false,
         _ => thinness(front).is_some(),
     }
 }
@@ -61,7 +61,7 @@ pub(crate) fn first_heading(command: Command, heading: Option<Heading>) -> Optio
     ensures { result ≡ first_heading command heading }
 {
     match (command, heading) {
-        (Command::Check | Command::Harden, _) => None,
+        (Command::Check | Command::Harden | Command::Starts, _) => None,
         (_, Some(above)) => Some(above),
         (_, None) => Some(Heading::First),
     }

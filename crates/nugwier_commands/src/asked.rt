@@ -190,7 +190,9 @@ impl<'a> Asked<'a> {
             Command::List => self.add_list_word(word),
             Command::Symbols => self.add_symbols_word(word),
             Command::Exports => self.add_letters(command, word),
-            Command::Tree | Command::Bindings => self.add_search(command, word),
+            Command::Tree | Command::Bindings | Command::Starts => {
+                self.add_search(command, word)
+            }
             Command::Harden => self.add_require(word),
             _ => Err(WordError::Option(command, word)),
         }

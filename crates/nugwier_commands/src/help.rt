@@ -23,6 +23,7 @@ usage: nugwier COMMAND [OPTION..] FILE..
   address     the symbols at addresses
   tree        the libraries that a program loads, and the files that are found for them
   bindings    what the symbols of a program and of its libraries bind to
+  starts      whether a program starts, or the first reason why it does not
 
   COMMAND --help    how the command is called, also help COMMAND and, except for list, COMMAND -h
   --json            an object of JSON for each record, one a line, in place of lines for people
@@ -198,6 +199,28 @@ each symbol that another file has to define, and for each that is copied into th
 If the calls of a function go elsewhere than to its address, the address has a second line, with (address) at its end.
 With --json each kind of reference has an object. What is missing or unknown is told on standard error, too.";
 
+const STARTS: &str = "\
+usage: nugwier starts [--json] [-R] [--search FOLDER].. [--root FOLDER] [--no-cache] FILE..
+
+Prints FILE: starts, or tells on standard error that the program does not start, and the first reason: what the kernel
+refuses of it or of its interpreter, a library that is missing or that the dynamic linker refuses, a symbol that is
+missing or unknown. The libraries are those of tree, with the same options, and the symbols those of bindings. Nothing
+is run. Files have no headings.
+
+It is not decided, and told so, what a dynamic linker does that is not the one of the GNU C library, nor what a machine
+does other than x86-64, i386, AArch64, Arm and 64-bit RISC-V.
+
+All symbols are looked up, as with LD_BIND_NOW: a function that is missing is a reason even if it is never called.
+Weak symbols may be missing.
+
+Not looked at are what a program and its libraries do when they start, libraries that they open with dlopen, the
+environment, versions that only weak symbols request, permissions, and whether this machine is that of the program. A
+library is taken as a program, which lacks what its users define.
+
+  nugwier starts /usr/bin/*                  the programs of this system
+  nugwier starts --root image /usr/bin/app   a program of the image of another one
+  nugwier starts --search lib bin/app        a program with LD_LIBRARY_PATH=lib";
+
 /// How the program, or one of its commands, is called.
 pub fn help(command: Option<Command>) -> &'static str
     ensures { result.now ≡ help_of command }
@@ -215,5 +238,6 @@ pub fn help(command: Option<Command>) -> &'static str
         Some(Command::Address) => ADDRESS,
         Some(Command::Tree) => TREE,
         Some(Command::Bindings) => BINDINGS,
+        Some(Command::Starts) => STARTS,
     }
 }

@@ -22,7 +22,7 @@ use nugwier_symbols::addresses::tell_addresses;
 use nugwier_symbols::symbols::{tell_exports, tell_letters};
 use std::alloc::Global;
 
-/// Tells what a job asks for of a file of this path. Of `tree` and `bindings` nothing is told of one file.
+/// Tells what a job asks for of a file of this path. Of `tree`, `bindings` and `starts` nothing is told of one file.
 #[tactic(auto, unfolding(crate::specs::Job::IsSaidOf))]
 pub fn tell_job<E: EndianParse, R: ListedFile<E>, T: Tell>(
     alloc: Global,
@@ -44,6 +44,6 @@ pub fn tell_job<E: EndianParse, R: ListedFile<E>, T: Tell>(
         Command::Check => tell_check(alloc, path, file, tell),
         Command::Harden => tell_hardening(alloc, path, job.requirements.as_slice(), file, tell),
         Command::Address => tell_addresses(alloc, job.addresses.as_slice(), file, tell),
-        Command::Tree | Command::Bindings => Ok(()),
+        Command::Tree | Command::Bindings | Command::Starts => Ok(()),
     }
 }

@@ -39,7 +39,8 @@ fn tells_sections(job: &Job<'_>) -> bool
     ensures { result ≡ tells_sections job.now.command (task_of job.now) }
 {
     match job.command {
-        Command::Plan | Command::BuildId | Command::Tree | Command::Bindings => false,
+        Command::Plan | Command::BuildId => false,
+        Command::Tree | Command::Bindings | Command::Starts => false,
         Command::List => has_sections(&job.parts) || !job.contents.is_empty(),
         _ => true,
     }

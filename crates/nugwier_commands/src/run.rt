@@ -235,7 +235,7 @@ fn run_files<F: Files, R: Run>(
 }
 
 // What is above a file, by its place among the files: of several files each has its path above it, except for `check`,
-// whose lines name it.
+// `harden` and `starts`, whose lines name it.
 fn heading_of(job: &Job<'_>, place: usize) -> Option<Heading>
     ensures { result ≡ heading_of (task_of job.now) place }
 {
@@ -253,7 +253,7 @@ fn has_headings(job: &Job<'_>) -> bool
     ensures { result ≡ has_headings job.now.command job.now.files.items }
 {
     match job.command {
-        Command::Check | Command::Harden => false,
+        Command::Check | Command::Harden | Command::Starts => false,
         _ => job.files.len() > 1,
     }
 }
@@ -386,6 +386,7 @@ fn run_content<F: Files, R: Run>(
     match target.job.command {
         Command::Tree => target.tell_program(alloc, files, data, run),
         Command::Bindings => target.tell_program(alloc, files, data, run),
+        Command::Starts => target.tell_program(alloc, files, data, run),
         _ => run_bytes(alloc, target, data.as_slice(), run),
     }
 }
@@ -426,6 +427,7 @@ fn run_parts<F: Files, R: Run>(
     match target.job.command {
         Command::Tree => run_program(alloc, target, files, run),
         Command::Bindings => run_program(alloc, target, files, run),
+        Command::Starts => run_program(alloc, target, files, run),
         _ => run_source(alloc, target, files, run),
     }
 }

@@ -29,6 +29,7 @@ use nugwier_layouts::json::Value;
 use nugwier_layouts::layouts;
 use nugwier_layouts::layouts::Layout;
 use nugwier_programs::bindings::{tell_bindings, tell_bound};
+use nugwier_programs::starts::{tell_bound_start, tell_start};
 use nugwier_programs::tree::{FILE, Search, tell_named, tell_tree};
 use nugwier_report::listed::ListedFile;
 use nugwier_report::names::NO_LABELS;
@@ -172,7 +173,7 @@ impl<'j> Target<'j> {
     ) -> Result<(), Stop>
         ensures { OnOk result (AreTold R.one (IsOne self.now.heading self.now.path.now
             (IsNamedProgramSaid (F.known files.now) self.now.job.now.command (search_of (task_of self.now.job.now))
-            (found_view program))) run.old run.new) }
+            self.now.path.now (found_view program))) run.old run.new) }
     {
         let page = Page {
             path: self.path,
@@ -192,12 +193,15 @@ impl<'j> Target<'j> {
     ) -> Result<(), Stop>
         ensures { OnOk result ((said : List Said)
             × IsNamedProgramSaid (F.known files.now) self.now.job.now.command (search_of (task_of self.now.job.now))
-            (found_view program) no_sections said
+            self.now.path.now (found_view program) no_sections said
             × (tell.new ≡ saying T.one tell.old (heading_said self.now.heading self.now.path.now ++ said))) }
     {
         self.tell_heading(tell)?;
         match self.job.command {
             Command::Bindings => tell_bound(alloc, self.search(), files, program, tell),
+            Command::Starts => {
+                tell_bound_start(alloc, self.search(), files, self.path, program, tell)
+            }
             _ => tell_named(alloc, self.search(), files, program, tell),
         }
     }
@@ -240,6 +244,7 @@ impl<'j> Target<'j> {
             Command::Bindings => {
                 tell_bindings(alloc, self.search(), files, self.path, data, tell)
             }
+            Command::Starts => tell_start(alloc, self.search(), files, self.path, data, tell),
             _ => tell_tree(alloc, self.search(), files, self.path, data, tell),
         }
     }

@@ -29,9 +29,10 @@ pub enum Command {
     Address,
     Tree,
     Bindings,
+    Starts,
 }
 
-static COMMANDS: [Command; 11] = [
+static COMMANDS: [Command; 12] = [
     Command::List,
     Command::Symbols,
     Command::Needed,
@@ -43,6 +44,7 @@ static COMMANDS: [Command; 11] = [
     Command::Address,
     Command::Tree,
     Command::Bindings,
+    Command::Starts,
 ];
 
 impl Command {
@@ -62,6 +64,7 @@ impl Command {
             Command::Address => "address",
             Command::Tree => "tree",
             Command::Bindings => "bindings",
+            Command::Starts => "starts",
         }
     }
 }
@@ -137,7 +140,7 @@ pub struct Job<'a> {
     pub format: Format,
     /// Whether the ELF files below a folder are listed.
     pub is_recursive: bool,
-    /// The folders in which `tree` and `bindings` search for libraries, before the usual ones.
+    /// The folders in which `tree`, `bindings` and `starts` search for libraries, before the usual ones.
     pub searches: Vec<&'a str>,
     /// Whether they take libraries that the linker's cache lists.
     pub has_cache: bool,

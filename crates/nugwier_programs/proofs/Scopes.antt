@@ -20,7 +20,7 @@ use Rattle.elf_linking.specs.declared.VersionedObject.{VersionedObject as Versio
 use Rattle.elf_records.specs.Table.{Table}
 use Rattle.elf_linking.specs.DynamicFile.{GivesDynamic, dynamic_symbols}
 use Rattle.elf_linking.specs.declared.resolve.ObjectFault.{ObjectFault}
-use Rattle.elf_libraries.specs.Tree.{Entry, entry_of}
+use Rattle.elf_libraries.specs.Tree.{Entry, entry_of, entry_view}
 use Rattle.elf_libraries.specs.declared.tree.Object.{Object as LoadedObject}
 use Rattle.nugwier_programs.specs.Bindings.{AreAllFilesSaid, AreEach, AreFilesSaid, AreSaidFrom, AreSearched, AreSymbolsSaid, IsFileSaid, IsFileSearched, IsOpening, IsSearchedBy, OpenFile, Opening, SearchedFile, Searching, Searched, Unsearchable, WithoutSymbols, file_heading, file_uses, files_in, files_of, objects_of, open_problem, paths_of, search_problem, searched_by}
 use Rattle.nugwier_programs.specs.Tree.{Known}
@@ -57,6 +57,17 @@ first_and_others [] first some is = absurd (omega (arith, some))
 first_and_others (x ∷ xs) first some is =
     let count : length xs ≤ length (x ∷ xs) - 1 = omega arith in
     ap (λ (l : List (Bor LoadedObject)). entry_of first ∷ map entry_of l) (take_all (length (x ∷ xs) - 1) xs count) ∙ ap (λ (o : Bor LoadedObject). entry_of o ∷ map entry_of xs) is
+
+-- the same of a list of objects
+pub first_object : (objects : List LoadedObject) (first : LoadedObject) → 1 ≤ length objects → first ≡ get_or objects 0 first →
+    entry_view first ∷ drop 1 (map entry_view objects) ≡ map entry_view objects
+first_object [] first some is = absurd (omega (arith, some))
+first_object (x ∷ xs) first some is = ap (λ (o : LoadedObject). entry_view o ∷ map entry_view xs) is
+
+pub others_view : (objects : List LoadedObject) → 1 ≤ length objects → map entry_view (take (length objects - 1) (drop 1 objects)) ≡ drop 1 (map entry_view objects)
+others_view [] some = absurd (omega (arith, some))
+others_view (x ∷ xs) some =
+    let count : length xs ≤ length (x ∷ xs) - 1 = omega arith in ap (map entry_view) (take_all (length (x ∷ xs) - 1) xs count)
 
 -- ---- objects, each with what becomes of it
 

@@ -7,5 +7,8 @@ pub mod Tree
 pub mod BindingRows
 pub mod Symbols
 pub mod Bindings
+-- what is refused to be loaded, and whether a program starts
+pub mod Loading
+pub mod Starts
 -- what stands here although no public contract speaks of it
 pub mod inner

@@ -96,14 +96,18 @@ Order = List Entry × List ℕ
 abbrev pub order_view : LoadOrder → Order
 order_view order = (map entry_view order.objects.items, order.scope.items)
 
--- the program with the libraries that it loads, in order, by their names alone
-abbrev pub AreNamedIn : KnownFiles → Search → Found → Order → Type 0
-AreNamedIn files search program order =
+-- the program with the libraries that it loads, in order, if files are opened so
+abbrev pub AreObjectsIn : (KnownFiles → List ℕ → Option Found) → KnownFiles → Search → Found → Order → Type 0
+AreObjectsIn opened files search program order =
     (listed : List (List ℕ)) × AreListed files (is_some (cache_for files.contents search program.kind)) listed
-    × IsLoadOrder (opened_in files) (others_of files.contents listed search program.kind) program order.0 order.1
+    × IsLoadOrder (opened files) (others_of files.contents listed search program.kind) program order.0 order.1
 
+abbrev pub AreObjects : (KnownFiles → List ℕ → Option Found) → Known → Search → Found → Order → Type 0
+AreObjects opened known search program order = IfSome known (λ files. AreObjectsIn opened files search program order)
+
+-- the same by their names alone
 abbrev pub AreNamedObjects : Known → Search → Found → Order → Type 0
-AreNamedObjects known search program order = IfSome known (λ files. AreNamedIn files search program order)
+AreNamedObjects known search program order = AreObjects opened_in known search program order
 
 -- ---- the order in which they are listed
 

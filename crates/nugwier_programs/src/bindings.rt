@@ -3,12 +3,12 @@
 
 ghost use Rattle.std.specs.Prelude.{◌≡◌, ◌∷◌, ◌++◌, List, OnOk, Some, map};
 ghost use Rattle.std.specs.List.{flat_map};
-ghost use Rattle.elf_libraries.specs.Tree.{entry_of, entry_view, file_of, found_view};
+ghost use Rattle.elf_libraries.specs.Tree.{entry_of, entry_view, file_of, found_view, in_order};
 ghost use Rattle.nugwier_programs.specs.Bindings.{AreAllFilesSaid, AreObjectsSaid, AreSearched, IsBindingsSaid};
 ghost use Rattle.nugwier_programs.specs.Bindings.{IsBoundSaid, IsProgramSaid, SearchedFile, Searching, files_of};
 ghost use Rattle.nugwier_programs.specs.Bindings.{search_problem};
 ghost use Rattle.nugwier_programs.specs.inner.Scope.{AreInScope, open_view, searched_file};
-ghost use Rattle.nugwier_programs.specs.Tree.{search_view};
+ghost use Rattle.nugwier_programs.specs.Tree.{order_view, search_view};
 ghost use Rattle.nugwier_report.specs.Said.{Said, saying};
 
 mod objects;
@@ -23,7 +23,7 @@ use crate::bindings::rows::tell_file;
 use crate::bindings::targets::Scope;
 use crate::tree::{Search, named_objects, open_program, tell_problems};
 use elf_libraries::files::Files;
-use elf_libraries::tree::{LoadedFile, Object, in_order};
+use elf_libraries::tree::{LoadOrder, LoadedFile, Object, in_order};
 use nugwier_report::problem::Stop;
 use nugwier_report::tell::Tell;
 use std::alloc::Global;
@@ -63,7 +63,22 @@ pub fn tell_bound<F: Files, T: Tell>(
 {
     let order = named_objects(alloc, search, files, program)?;
     tell_problems(&order.objects, tell)?;
-    let objects = in_order(alloc, &order)?;
+    tell_symbols(alloc, files, &order, tell)?;
+    Ok(())
+}
+
+/// Says what the symbols of the objects bind to.
+pub(crate) fn tell_symbols<F: Files, T: Tell>(
+    alloc: Global,
+    files: &F,
+    order: &LoadOrder,
+    tell: &mut T,
+) -> Result<(), Stop>
+    ensures { let view = order_view order.now in OnOk result ((said : List Said)
+        × AreObjectsSaid (F.known files.now) (in_order view.0 view.1) said
+        × (tell.new ≡ saying T.one tell.old said)) }
+{
+    let objects = in_order(alloc, order)?;
     tell_objects(alloc, files, &objects, tell)?;
     Ok(())
 }

@@ -1,8 +1,10 @@
-//! What `nugwier` says of a program with its libraries: its objects (`tree`), and what their symbols bind to (`bindings`).
+//! What `nugwier` says of a program with its libraries: its objects (`tree`), what their symbols bind to (`bindings`), and
+//! whether it starts (`starts`).
 #![tactic(auto)]
 
 pub mod binding_rows;
 pub mod bindings;
 pub mod faults;
 pub mod object_rows;
+pub mod starts;
 pub mod tree;

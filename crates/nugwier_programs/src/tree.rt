@@ -1,13 +1,14 @@
 //! The libraries that a program loads.
 #![tactic(auto, using(nugwier_report::proofs::Saying::saying_both, nugwier_report::proofs::Parts::said_parts))]
 
-ghost use Rattle.std.specs.Prelude.{◌≡◌, ◌++◌, List, Some, IfOk, IfSome, OnOk, map, slice_get};
+ghost use Rattle.std.specs.Prelude.{◌≡◌, ◌++◌, ℕ, List, Option, Some, IfOk, IfSome, OnOk, map, slice_get};
 ghost use Rattle.std.specs.List.{flat_map};
 ghost use Rattle.std.specs.Option.{option_copied, option_map};
 ghost use Rattle.std.specs.Vec.{vec_items};
 ghost use Rattle.elf_libraries.specs.Cache.{cache_view};
-ghost use Rattle.elf_libraries.specs.Tree.{Entry, entry_view, file_of, found_view, loader_at};
-ghost use Rattle.nugwier_programs.specs.Tree.{AreNamedObjects, IsNamedSaid, IsProgram, IsTreeSaid};
+ghost use Rattle.elf_libraries.specs.Folder.{KnownFiles};
+ghost use Rattle.elf_libraries.specs.Tree.{Entry, Found, entry_view, file_of, found_view, loader_at};
+ghost use Rattle.nugwier_programs.specs.Tree.{AreNamedObjects, AreObjects, IsNamedSaid, IsProgram, IsTreeSaid};
 ghost use Rattle.nugwier_programs.specs.Tree.{after_it, at_depth, cache_file, cache_in, search_view};
 ghost use Rattle.nugwier_programs.specs.Tree.{first_needed};
 ghost use Rattle.nugwier_programs.specs.Tree.{is_needed_by, library_path, listed, listed_said, next_beside};
@@ -27,7 +28,7 @@ use elf_libraries::named::NamedLibraries;
 use elf_libraries::processor::{hwcaps_of, level_for};
 use elf_libraries::search::Surroundings;
 use elf_libraries::tree::{
-    LoadOrder, LoadedFile, Object, OpenError, load_order, loader_at, object_at,
+    LoadOrder, LoadedFile, Object, OpenError, Opener, load_order, loader_at, object_at,
 };
 use elf_libraries::usual::{lib_of, platform_of, usual_folders};
 use nugwier_report::problem::{Item, Part, Place, Stop};
@@ -121,6 +122,22 @@ pub(crate) fn named_objects<F: Files>(
     ensures { IfOk result (λ order. AreNamedObjects (F.known files.now) (search_view search.entry) (found_view program)
         (order_view order)) }
 {
+    let opener = NamedLibraries { files };
+    objects_by(alloc, search, files, &opener, program)
+}
+
+/// Returns the program with its libraries, which this opens.
+pub(crate) fn objects_by<F: Files, O: Opener>(
+    alloc: Global,
+    search: Search<'_>,
+    files: &F,
+    opener: &O,
+    program: LoadedFile,
+) -> Result<LoadOrder, AllocError>
+    ensures { IfOk result (λ order. (opened : KnownFiles → List ℕ → Option Found)
+        → O.opened opener.now ≡ option_map opened (F.known files.now)
+        → AreObjects opened (F.known files.now) (search_view search.entry) (found_view program) (order_view order)) }
+{
     let library_path = library_path(alloc, search.folders)?;
     let usual_folders = usual_folders(alloc, program.kind)?;
     let level = level_for(alloc, files, program.kind)?;
@@ -139,7 +156,7 @@ pub(crate) fn named_objects<F: Files>(
         listed_folders: listed_folders.as_slice(),
         usual_folders: usual_folders.as_slice(),
     };
-    load_order(alloc, &NamedLibraries { files }, &surroundings, program)
+    load_order(alloc, opener, &surroundings, program)
 }
 
 // The content of the linker's cache, if it counts and can be read.
@@ -190,7 +207,12 @@ pub(crate) fn tell_problems<T: Tell>(objects: &[Object], tell: &mut T) -> Result
     Ok(())
 }
 
-fn tell_problem<T: Tell>(objects: &[Object], object: &Object, tell: &mut T) -> Result<(), Stop>
+/// Says it of one of the objects.
+pub(crate) fn tell_problem<T: Tell>(
+    objects: &[Object],
+    object: &Object,
+    tell: &mut T,
+) -> Result<(), Stop>
     ensures { OnOk result (tell.new
         ≡ saying T.one tell.old (object_problem (map entry_view objects.now) (entry_view object.now))) }
 {

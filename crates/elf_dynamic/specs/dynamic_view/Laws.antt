@@ -8,7 +8,7 @@ use Rattle.elf.specs.Answers.{symbol_sections}
 use Rattle.elf.specs.ObjectFile.{Extent, FileOf, ObjectFile, Partial}
 use Rattle.elf_dynamic.specs.declared.dynamic_view.error.DynamicError.{DynamicError}
 use Rattle.elf_dynamic.specs.declared.dynamic_view.error.DynamicError.TheVariants.{Missing}
-use Rattle.elf_dynamic.specs.Linked.{dynamic_symbols, dynamic_versions, linked_by}
+use Rattle.elf_dynamic.specs.Linked.{dynamic_symbols, dynamic_versions, hash_section, linked_by}
 use Rattle.elf_dynamic.specs.dynamic_view.Entries.{dynamic_table}
 use Rattle.elf_dynamic.specs.dynamic_view.Hashes.{gnu_hash, sysv_hash}
 use Rattle.elf_dynamic.specs.dynamic_view.Relocations.{plt_relocations, relas, relocations, relr_bytes, rels}
@@ -33,6 +33,7 @@ pub record FollowsWhole (is_missing : ℕ × ℕ → Bool) (whole : ObjectFile) 
   pub linked : ViewFollows is_missing (linked_by whole) (linked_by part)
   pub linked_symbols : ViewFollows is_missing (dynamic_symbols whole) (dynamic_symbols part)
   pub linked_versions : ViewFollows is_missing (dynamic_versions whole) (dynamic_versions part)
+  pub linked_hash : ViewFollows is_missing (hash_section whole) (hash_section part)
   pub bytes_of : (a n : ℕ) → ViewFollows is_missing (bytes_of whole a n) (bytes_of part a n)
   pub bytes_from : (a : ℕ) → ViewFollows is_missing (bytes_from whole a) (bytes_from part a)
   pub strings : (es : List Dyn) → ViewFollows is_missing (strings whole es) (strings part es)

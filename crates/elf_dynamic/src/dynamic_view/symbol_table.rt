@@ -111,8 +111,8 @@ pub(crate) fn total_count<E: EndianParse, R: Reader<E>>(
 /// the symbols that other files define.
 ///
 /// Errors, in order: `NoEntry(DT_SYMTAB)`; `NoEntry(DT_SYMENT)`; `EntrySize` if the size of a symbol is not the one of
-/// the file's class; those of `symbol_count`; `UnknownCount` if that returns `None`; `NotLoaded` with the address of
-/// the table if no segment of type `PT_LOAD` has it in the file.
+/// the file's class; those of `symbol_count`; `UnknownCount` if that returns `None`; `Missing` if relocations are not
+/// loaded; `NotLoaded` with the address of the table if no segment of type `PT_LOAD` has it in the file.
 pub fn symbol_part<E: EndianParse, R: Reader<E>>(
     file: &R,
     entries: &DynamicTable<'_, E>,

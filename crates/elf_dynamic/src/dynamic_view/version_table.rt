@@ -46,7 +46,8 @@ fn indexes_at<'f, E: EndianParse, R: Reader<E>>(
 /// Returns the version indexes of the symbols (`DT_VERSYM`), one for each of `symbols`, or `None` if no entry gives their
 /// address.
 ///
-/// Errors, in order: those of `symbol_count`; `UnknownCount` if that returns `None`; those of `bytes_of`.
+/// Errors, in order: those of `symbol_count`; `UnknownCount` if that returns `None`; `Missing` if relocations are not loaded;
+/// those of `bytes_of`.
 pub fn version_indexes<'f, E: EndianParse, R: Reader<E>>(
     file: &'f R,
     entries: &DynamicTable<'_, E>,

@@ -24,10 +24,7 @@ use elf_hash_check::hashcheck::{AnyChecked, Checked, HashKind, check_any};
 /// The bytes of a section, and the dynamic symbols with their strings.
 pub(crate) type SectionParts<'data, E> = (&'data [u8], (SymbolTable<'data, E>, StringTable<'data>));
 
-/// A hash section by its kind, and its bytes.
-pub(crate) type HashBytes<'data> = (HashKind, &'data [u8]);
-
-/// The same with what it is checked with.
+/// A hash section by its kind, with what it is checked with.
 pub(crate) type HashParts<'data, E> = (HashKind, SectionParts<'data, E>);
 
 // What a section is checked with.

@@ -283,9 +283,9 @@ impl<'data, E: EndianParse> GnuHashTable<'data, E> {
         Some((word >> (second % bits)) & 1 == 1)
     }
 
-    /// Returns whether the bloom words tell that the section has no name with this hash (`gnu_hash`): `find` of such a
-    /// name returns `None`. Most names that are not in a section are excluded so, and none that is in a sound one. Of
-    /// bloom bits that cannot be read nothing is told.
+    /// Returns whether the bloom words show that the section has no name with this hash (`gnu_hash`): `find` of such a
+    /// name returns `None`. Most names that are not in a section are excluded so, and none that is in a sound one. Where
+    /// the bloom bits cannot be read, no name is excluded.
     ///
     /// ```rust
     /// // One hash serves for all files.

@@ -9,6 +9,7 @@ use Rattle.nugwier_commands.specs.declared.run.Outcome.{Outcome}
 use Rattle.nugwier_commands.specs.declared.run.Outcome.TheVariants.{Done, Stopped, Wrong}
 use Rattle.nugwier_commands.specs.declared.target.LostHeaders.{LostHeaders}
 use Rattle.nugwier_programs.specs.Bindings.{IsBoundSaid}
+use Rattle.nugwier_programs.specs.Starts.{IsBoundStartSaid}
 use Rattle.nugwier_programs.specs.Tree.{IsNamedSaid, Search}
 use Rattle.nugwier_commands.specs.Formats.{front}
 use Rattle.nugwier_report.specs.Labels.{Named, no_sections}
@@ -20,7 +21,7 @@ use Rattle.nugwier_report.specs.declared.problem.Stop.TheVariants.{Memory as IsM
 use Rattle.nugwier_report.specs.declared.report.Summary.{Summary}
 use Rattle.nugwier_commands.specs.Words.{Task}
 use Rattle.nugwier_commands.specs.declared.words.Command.{Command}
-use Rattle.nugwier_commands.specs.declared.words.Command.TheVariants.{Bindings}
+use Rattle.nugwier_commands.specs.declared.words.Command.TheVariants.{Bindings, Starts}
 use Rattle.nugwier_commands.specs.declared.words.WordError.{WordError}
 use Rattle.nugwier_commands.specs.declared.words.WordError.TheVariants.{Memory}
 use Rattle.nugwier_commands.specs.declared.target.Heading.{Heading}
@@ -65,11 +66,13 @@ abbrev pub IsNamed : List ℕ → Option (List ℕ) → Found → Type 0
 IsNamed path content program =
     (bytes : List ℕ) × (content ≡ Some bytes) × (ok_map without_bytes (file_of path bytes) ≡ Ok program)
 
--- what a command says of a program that was opened by its names alone
-abbrev pub IsNamedProgramSaid : Known → Command → Search → Found → Named → List Said → Type 0
-IsNamedProgramSaid known Bindings search program named said =
+-- what a command says of a program at this path that was opened by its names alone
+abbrev pub IsNamedProgramSaid : Known → Command → Search → List ℕ → Found → Named → List Said → Type 0
+IsNamedProgramSaid known Bindings search path program named said =
     (named ≡ no_sections) × IsBoundSaid known search program said
-IsNamedProgramSaid known other search program named said =
+IsNamedProgramSaid known Starts search path program named said =
+    (named ≡ no_sections) × IsBoundStartSaid known search path program said
+IsNamedProgramSaid known other search path program named said =
     (named ≡ no_sections) × IsNamedSaid known search program said
 
 -- ---- a run

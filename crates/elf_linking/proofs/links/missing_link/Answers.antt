@@ -4,7 +4,7 @@ use Rattle.elf.specs.Answers.{symbols_view}
 use Rattle.elf.specs.Parts.{loaded}
 use Rattle.elf_parts.specs.gnu_symver.Table.{versions_view}
 use Rattle.elf_linking.specs.DynamicFile.{dynamic_symbols, dynamic_versions, hash_parts}
-use Rattle.elf_linking.specs.inner.BySegments.{hash_view}
+use Rattle.elf_linking.specs.ObjectTable.{hash_view}
 use Rattle.elf_linking.proofs.Whole.{found_there, uses_there}
 use Rattle.elf_linking.proofs.links.missing_link.Goals as goal
 

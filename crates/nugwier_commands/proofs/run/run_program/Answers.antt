@@ -14,5 +14,5 @@ returns g c =
     let path = c.args.target.path.now in
     let program = found_view c.in-Some.program in
     as_told g.R.Run.one _ _ _ (IsOne heading path (IsSaidAt known (IsProgramSaid known task.command task path) path))
-    (one_of heading path (IsNamedProgramSaid known task.command (search_of task) program) (IsSaidAt known (IsProgramSaid known task.command task path) path)
+    (one_of heading path (IsNamedProgramSaid known task.command (search_of task) path program) (IsSaidAt known (IsProgramSaid known task.command task path) path)
     (λ named said h. named_said known task path program named said c.in-Some.ensures h)) c.in_ok-tell_named.ensures

@@ -12,5 +12,5 @@ returns g c =
     let target = c.args.self.now in
     let heading = target.heading in
     let path = target.path.now in
-    let Says = IsNamedProgramSaid (g.F.Files.known c.args.files.now) target.job.now.command (search_of (task_of target.job.now)) (found_view c.args.program) in
+    let Says = IsNamedProgramSaid (g.F.Files.known c.args.files.now) target.job.now.command (search_of (task_of target.job.now)) path (found_view c.args.program) in
     told_under g.R.Run.one c.tell_opened.result heading path Says (λ said. Says no_sections said) no_sections _ c.tell_opened.new.tell _ refl (λ said is. is) c.tell_opened.ensures c.run-1.given.1

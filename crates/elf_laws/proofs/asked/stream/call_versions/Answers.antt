@@ -1,0 +1,15 @@
+use Rattle.std.proofs.Common.{ap}
+use Rattle.std.specs.Option.{option_map}
+use Rattle.elf_records.specs.Number.{ok_map}
+use Rattle.elf_parts.specs.gnu_symver.Table.{versions_view}
+use Rattle.elf.specs.Readers as method
+use Rattle.elf_laws.proofs.Made.{was_called}
+use Rattle.elf_laws.proofs.asked.stream.call_versions.Goals as goal
+
+pub returns-in-Ok : goal.returns-in-Ok
+returns-in-Ok g c =
+    was_called g.E.EndianParse.little c.args.stream.now c.symbol_version_table.follows.lender-at-none method.SymbolVersionTable (option_map versions_view) c.symbol_version_table.result _ c.symbol_version_table.follows.holds-at-none (ap (ok_map (λ _. tt)) c.in-Ok.is)
+
+pub returns-in-Err : goal.returns-in-Err
+returns-in-Err g c =
+    was_called g.E.EndianParse.little c.args.stream.now c.symbol_version_table.follows.lender-at-none method.SymbolVersionTable (option_map versions_view) c.symbol_version_table.result _ c.symbol_version_table.follows.holds-at-none (ap (ok_map (λ _. tt)) c.in-Err.is)

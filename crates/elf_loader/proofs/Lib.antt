@@ -1,0 +1,5 @@
+pub mod GlibcParts
+pub mod GlibcWhole
+mod GlibcReading
+mod Filled
+mod Partly
